@@ -1,0 +1,5 @@
+pub mod Products
+pub mod Ranges
+pub mod Insides
+pub mod Totals
+pub mod Outsides

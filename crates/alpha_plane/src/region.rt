@@ -1,0 +1,176 @@
+ghost use Rattle.std.specs.Prelude.{◌≡◌, ◌⊎◌, ◌≤◌, ◌*◌, ◌^◌, None, Some, length, All, MatchResult, nat_le, nat_lt, pos, ◌*ℤ◌, neg_ℤ, int_le, unsigned_abs};
+ghost use Rattle.alpha_plane.specs.Inside.{Inside, sector, square, norm, dot, cross};
+ghost use Rattle.alpha_plane.specs.Outside.{OutsideAll};
+ghost use Rattle.alpha_plane.specs.Region.{region_fault};
+ghost use Rattle.phasor.specs.Point.{IsWithin, total};
+
+use ld_base::Wide;
+use phasor::Phasor;
+use std::marker::Model;
+
+/// The largest number of a region's radius and direction.
+pub const LARGEST: u32 = 10_000;
+
+/// Why a region is refused: the first of these that holds.
+#[derive(Clone, Copy, Debug, PartialEq, Eq)]
+pub enum BadRegion {
+    /// `1 <= rd <= rn <= 10000` fails.
+    Radius,
+    /// `p` isn't from -10000 to 10000, or `q` isn't from 1 to 10000.
+    Direction,
+}
+
+/// A restraint region of the alpha plane: the annular sector with the radii `rd / rn` and `rn / rd`, centred on 180 degrees,
+/// whose upper edge has the direction `(p, q)`.
+#[derive(Clone, Copy, Debug, PartialEq, Eq)]
+pub struct Region {
+    rn: u32,
+    rd: u32,
+    p: i32,
+    q: i32,
+}
+
+impl Model for Region {
+    ghost use Rattle.std.specs.Prelude.{◌≡◌, None};
+    ghost use Rattle.alpha_plane.specs.Inside.{Sector};
+
+    ghost Value = { Sector };
+
+    ghost use Rattle.alpha_plane.specs.Region.{region_fault};
+
+    ghost view = { λ r. record { rn = r.rn; rd = r.rd; p = r.p; q = r.q } };
+
+    ghost invariant = { λ r. region_fault (record { rn = r.rn; rd = r.rd; p = r.p; q = r.q }) ≡ None };
+
+    ghost inverse = { λ s. record { rn = s.rn; rd = s.rd; p = s.p; q = s.q } };
+}
+
+impl Region {
+    /// The region of that radius `rn / rd` and that direction, or the first fault.
+    #[tactic(auto, unfolding(crate::specs::Region::region_fault))]
+    pub fn new(rn: u32, rd: u32, p: i32, q: i32) -> Result<Region, BadRegion>
+        ensures { MatchResult result
+            (λ r. (r ≡ sector rn rd p q) × (region_fault (sector rn rd p q) ≡ None))
+            (λ fault. region_fault (sector rn rd p q) ≡ Some fault) }
+    {
+        if rd < 1 || rn < rd || LARGEST < rn {
+            return Err(BadRegion::Radius);
+        }
+        if p.unsigned_abs() > LARGEST || q < 1 || q.unsigned_abs() > LARGEST {
+            return Err(BadRegion::Direction);
+        }
+        Ok(Region { rn, rd, p, q })
+    }
+
+    /// Whether the local current `l` and the remote current `r` lie in the region. The border is inside.
+    pub fn inside(&self, l: Phasor, r: Phasor) -> bool
+        ensures { result ≡ Inside self.now l r }
+    {
+        let (local, remote) = (norm(l), norm(r));
+        self.is_at_most_radius(remote, local)
+            && self.is_at_most_radius(local, remote)
+            && self.is_at_most_angle(dot(l, r), cross(l, r))
+    }
+
+    // Whether the current of norm `one` is at most `rn / rd` times that of norm `other`.
+    fn is_at_most_radius(&self, one: u128, other: u128) -> bool
+        requires one { one ≤ 2 ^ 73 }
+        requires other { other ≤ 2 ^ 73 }
+        ensures { result ≡ nat_le (square self.now.rd * one) (square self.now.rn * other) }
+    {
+        let (rn, rd) = (u128::from(self.rn), u128::from(self.rd));
+        rd * rd * one <= rn * rn * other
+    }
+
+    // Whether two currents of this dot and cross product are turned from opposition by at most the angle of `(p, q)`.
+    fn is_at_most_angle(&self, dot: Wide, cross: Wide) -> bool
+        requires dot { unsigned_abs dot ≤ 2 ^ 73 }
+        requires cross { unsigned_abs cross ≤ 2 ^ 73 }
+        ensures { result ≡ int_le (self.now.p *ℤ pos (unsigned_abs cross)) (self.now.q *ℤ neg_ℤ dot) }
+    {
+        let sideways = Wide::from(i64::from(self.p)).times::<14, 73>(cross.absolute());
+        let opposite = Wide::from(i64::from(self.q)).times::<14, 73>(dot.negated());
+        sideways.is_at_most(opposite)
+    }
+
+    /// Whether the sums of one phase, one for each station, lie outside the region: their total passes the pickup, and
+    /// each of them lies outside against the sum of the others. `pickup` is in counts of the converter, `cycle` in
+    /// samples.
+    #[tactic(auto, using(crate::proofs::Outsides::stations))]
+    pub fn outside_all(&self, sums: &[Phasor], pickup: u16, cycle: u8) -> bool
+        requires stations { (length sums.now ≡ 2) ⊎ (length sums.now ≡ 3) }
+        requires size { All (IsWithin 34) sums.now }
+        requires cycle { (4 ≤ cycle) × (cycle ≤ 20) }
+        ensures { result ≡ OutsideAll self.now pickup cycle sums.now }
+    {
+        let total = total(sums);
+        if !passes_pickup(total, pickup, cycle) {
+            return false;
+        }
+        for sum in sums {
+            if self.inside(*sum, total.minus(*sum)) {
+                return false;
+            }
+        }
+        true
+    }
+}
+
+// The sum of two or three phasors.
+#[tactic(auto, using(crate::proofs::Totals::steps))]
+fn total(sums: &[Phasor]) -> Phasor
+    requires few { length sums.now ≤ 3 }
+    requires size { All (IsWithin 34) sums.now }
+    ensures total { result ≡ total sums.now }
+    ensures size { (unsigned_abs result.re ≤ 3 * 2 ^ 34) × (unsigned_abs result.im ≤ 3 * 2 ^ 34) }
+{
+    let mut total = Phasor::zero();
+    for sum in sums {
+        total = total.plus(*sum);
+    }
+    total
+}
+
+// Whether a differential current is above the pickup.
+fn passes_pickup(total: Phasor, pickup: u16, cycle: u8) -> bool
+    requires { cycle ≤ 20 }
+    ensures { result ≡ nat_lt (square (pickup * cycle * 16384)) (4 * norm total) }
+{
+    let limit = u128::from(pickup) * u128::from(cycle) * 16384;
+    limit * limit < 4 * norm(total)
+}
+
+// The square of a phasor's amplitude.
+fn norm(z: Phasor) -> u128
+    ensures norm { result ≡ norm z }
+    ensures size { result ≤ 2 ^ 73 }
+{
+    let (re, im) = (
+        u128::from(z.re.unsigned_abs()),
+        u128::from(z.im.unsigned_abs()),
+    );
+    re * re + im * im
+}
+
+// The real part of `l` times the conjugate of `r`.
+fn dot(l: Phasor, r: Phasor) -> Wide
+    ensures dot { result ≡ dot l r }
+    ensures size { unsigned_abs result ≤ 2 ^ 73 }
+{
+    let re = Wide::from(l.re).times::<36, 36>(Wide::from(r.re));
+    let im = Wide::from(l.im).times::<36, 36>(Wide::from(r.im));
+    re.plus::<72>(im)
+}
+
+// The imaginary part of `r` times the conjugate of `l`.
+fn cross(l: Phasor, r: Phasor) -> Wide
+    ensures cross { result ≡ cross l r }
+    ensures size { unsigned_abs result ≤ 2 ^ 73 }
+{
+    let ahead = Wide::from(l.re).times::<36, 36>(Wide::from(r.im));
+    let behind = Wide::from(l.im).times::<36, 36>(Wide::from(r.re));
+    ahead.minus::<72>(behind)
+}
+
+#[cfg(test)]
+mod tests;

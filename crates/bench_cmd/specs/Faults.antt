@@ -1,0 +1,36 @@
+-- What is wrong with an input, and the line that tells it.
+use Rattle.std.specs.Prelude.{ℕ, ◌+◌, ◌++◌, List, [], ◌∷◌, Option, Some, None, Result, Ok, Err, codes, decimal}
+use Rattle.ld_base.specs.declared.reason.Reason.{Reason}
+use Rattle.ld_base.specs.declared.reason.Reason.TheVariants as reason
+
+-- what is wrong with an input: a row, counted from 1, and the least rule that it breaks
+pub record Fault : Type 0 where
+  pub row : ℕ
+  pub reason : Reason
+
+-- the first row with a fault, where `row` is the number of the first of these
+abbrev pub first_fault : ℕ → List (Option Reason) → Option Fault
+first_fault row [] = None
+first_fault row (None ∷ rest) = first_fault (row + 1) rest
+first_fault row (Some reason ∷ rest) = Some (record { row = row; reason = reason })
+
+-- the text to write, unless there is a fault
+abbrev pub unless : Option Fault → List ℕ → Result (List ℕ) Fault
+unless None text = Ok text
+unless (Some fault) text = Err fault
+
+-- the number of a rule
+abbrev pub reason_number : Reason → ℕ
+reason_number reason.Kind = 1
+reason_number reason.Fields = 2
+reason_number reason.Number = 3
+reason_number reason.Range = 4
+reason_number reason.Key = 5
+reason_number reason.Late = 6
+reason_number reason.Station = 7
+reason_number reason.Order = 8
+reason_number reason.Settings = 9
+
+-- the line that is written of an input with a fault
+abbrev pub bad_line : Fault → List ℕ
+bad_line fault = codes "bad," ++ decimal fault.row ++ codes "," ++ decimal (reason_number fault.reason) ++ codes "\n"

@@ -1,0 +1,10 @@
+pub mod Answers
+pub mod Codes
+pub mod Commands
+pub mod Ends
+pub mod Faults
+pub mod Judge
+pub mod Numbers
+pub mod Outcomes
+pub mod Rows
+pub mod Transfers

@@ -1,0 +1,107 @@
+//! The top call.
+
+ghost use Rattle.std.specs.Prelude.{◌≡◌, ◌↔◌, ◌⊎◌, ◌<◌, ◌≤◌, ℕ, List, length, None, Some, Result, Err, IfOk, map};
+ghost use Rattle.bench_cmd.specs.Answers.{Answers, Completes, Written, outcome};
+ghost use Rattle.bench_cmd.specs.Commands.{IsFitting, command_of};
+ghost use Rattle.bench_cmd.specs.Faults.{Fault};
+ghost use Rattle.bench_cmd.specs.Outcomes.{IsOutcome};
+ghost use Rattle.bench_cmd.specs.declared.command.Command.{Command};
+ghost use Rattle.bench_cmd.specs.declared.input.TheConstants.{LARGEST_INPUT};
+ghost use Rattle.ld_base.specs.Faults.{Rose};
+
+use crate::command::Command;
+use crate::input::{Unread, read_input};
+use crate::judge::judge;
+use crate::output::{Outcome, bad_line, write_text};
+use crate::status::Status;
+use ld_base::{NoMemory, Reason, Sink, Source};
+use std::alloc::Global;
+
+/// Runs the command of these words, without the program's name, over an input and an output. The input is read to its end
+/// before anything is made of it, and the whole text is made before its first byte is written.
+pub fn run<S: Source, K: Sink>(
+    alloc: Global,
+    words: &[Vec<u8>],
+    source: &mut S,
+    sink: &mut K,
+) -> Status
+    ensures usage { (result ≡ Status.Usage) ↔ (command_of (map (λ word. word.items) words.now) ≡ None) }
+    ensures untouched { result ≡ Status.Usage → (source.new ≡ source.old) × (sink.new ≡ sink.old) }
+    ensures answer { (command : Command) → command_of (map (λ word. word.items) words.now) ≡ Some command
+        → Answers (outcome command)
+        (record { bytes = S.bytes_left source.old; faults = S.faults source.old })
+        (record { bytes = S.bytes_left source.new; faults = S.faults source.new })
+        (record { bytes = K.bytes_written sink.old; faults = K.faults sink.old })
+        (record { bytes = K.bytes_written sink.new; faults = K.faults sink.new })
+        result }
+
+    // Where neither end fails, an input that is small enough gets its whole answer, and a larger one is too large.
+    ensures complete { (command : Command) (input : List ℕ)
+        → command_of (map (λ word. word.items) words.now) ≡ Some command
+        → S.bytes_left source.old ≡ Some input → length input ≤ LARGEST_INPUT
+        → ¬ Rose (S.faults source.old) (S.faults source.new) → ¬ Rose (K.faults sink.old) (K.faults sink.new)
+        → Completes (outcome command input)
+        (record { bytes = K.bytes_written sink.old; faults = K.faults sink.old })
+        (record { bytes = K.bytes_written sink.new; faults = K.faults sink.new })
+        result }
+    ensures too_large { (command : Command) (input : List ℕ)
+        → command_of (map (λ word. word.items) words.now) ≡ Some command
+        → S.bytes_left source.old ≡ Some input → LARGEST_INPUT < length input
+        → ¬ Rose (S.faults source.old) (S.faults source.new)
+        → (result ≡ Status.TooLarge) ⊎ (result ≡ Status.NoMemory) }
+{
+    let Some(command) = Command::of(words) else {
+        return Status::Usage;
+    };
+    let input = match read_input(alloc, source) {
+        Ok(input) => input,
+        Err(Unread::Failed) => return Status::ReadFault,
+        Err(Unread::TooLarge) => return Status::TooLarge,
+        Err(Unread::NoMemory) => return Status::NoMemory,
+    };
+    match outcome_of(alloc, command, &input) {
+        Ok(outcome) => finish(alloc, &outcome, sink),
+        Err(NoMemory) => Status::NoMemory,
+    }
+}
+
+// What the command makes of the input.
+fn outcome_of(alloc: Global, command: Command, input: &[u8]) -> Result<Outcome, NoMemory>
+    requires { IsFitting command }
+    ensures { IfOk result (λ made. IsOutcome made (outcome command input.now)) }
+{
+    match command {
+        Command::Judge { count } => judge(alloc, count, input),
+    }
+}
+
+// Writes the outcome, and says how that went.
+fn finish<K: Sink>(alloc: Global, outcome: &Outcome, sink: &mut K) -> Status
+    ensures { (made : Result (List ℕ) Fault) → IsOutcome outcome.now made
+        → Written made
+        (record { bytes = K.bytes_written sink.old; faults = K.faults sink.old })
+        (record { bytes = K.bytes_written sink.new; faults = K.faults sink.new })
+        result }
+{
+    match outcome {
+        Outcome::Text(text) => match write_text(sink, text) {
+            Ok(()) => Status::Done,
+            Err(_) => Status::WriteFault,
+        },
+        Outcome::Bad { row, reason } => finish_bad(alloc, *row, *reason, sink),
+    }
+}
+
+// Writes the line of a bad row. The answer stays the same where the line can't be written whole.
+fn finish_bad<K: Sink>(alloc: Global, row: u64, reason: Reason, sink: &mut K) -> Status
+    ensures { Written (Err (record { row = row; reason = reason }))
+        (record { bytes = K.bytes_written sink.old; faults = K.faults sink.old })
+        (record { bytes = K.bytes_written sink.new; faults = K.faults sink.new })
+        result }
+{
+    let Ok(line) = bad_line(alloc, row, reason) else {
+        return Status::NoMemory;
+    };
+    let _ = write_text(sink, &line);
+    Status::BadInput { row, reason }
+}

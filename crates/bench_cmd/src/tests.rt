@@ -1,0 +1,186 @@
+use crate::{Status, run};
+use ld_base::{MemorySink, MemorySource, Reason};
+use std::alloc::Global;
+use std::test::Fail;
+
+const STEP: &[u8] = b"81,0,0,0,0,0,0\n82,0,0,0,0,0,0\n83,0,0,0,0,0,0\n84,0,0,0,0,0,0\n\
+85,0,0,0,0,0,0\n86,0,0,0,0,0,0\n87,0,0,0,0,0,0\n88,0,0,0,0,0,0\n89,0,0,0,0,0,0\n90,0,0,0,0,0,0\n\
+91,0,0,0,0,0,0\n92,0,0,0,0,0,0\n93,0,0,0,0,0,0\n94,0,0,0,0,0,0\n95,0,0,0,0,0,0\n96,0,0,0,0,0,0\n\
+97,0,0,0,0,0,0\n98,0,0,0,0,0,0\n99,0,0,0,0,0,0\n100,0,0,0,0,0,0\n\
+101,-5063,0,0,-5063,0,0\n102,-9630,0,0,-9630,0,0\n";
+
+const VERDICTS: &[u8] = b"81,WWW\n82,WWW\n83,WWW\n84,WWW\n85,WWW\n86,WWW\n87,WWW\n88,WWW\n89,WWW\n\
+90,WWW\n91,WWW\n92,WWW\n93,WWW\n94,WWW\n95,WWW\n96,WWW\n97,WWW\n98,WWW\n99,WWW\n100,RRR\n101,ORR\n\
+102,TRR\n";
+
+// An answer and what was written.
+#[derive(Drop)]
+struct Told {
+    status: Status,
+    written: Vec<u8>,
+}
+
+// Runs `judge COUNT` over an input, with a source whose listed calls fail and a sink with that room whose listed calls fail.
+fn judged(
+    alloc: Global,
+    words: &[&[u8]],
+    input: &[u8],
+    failing: (&[u64], &[u64]),
+    room: usize,
+) -> Result<Told, Fail> {
+    let mut all = Vec::new(alloc);
+    for word in words {
+        all.push(Vec::from_slice(alloc, word)?)?;
+    }
+    let bytes = Vec::from_slice(alloc, input)?;
+    let mut source = MemorySource::new(bytes, Vec::from_slice(alloc, failing.0)?);
+    let mut sink = MemorySink::new(room, Vec::from_slice(alloc, failing.1)?)?;
+    let status = run(alloc, &all, &mut source, &mut sink);
+    let written = Vec::from_slice(alloc, sink.written())?;
+    Ok(Told { status, written })
+}
+
+#[test]
+fn a_step_trips_at_its_second_set(rt: HostRuntime) -> Result<(), Fail> {
+    let told = judged(rt.alloc(), &[b"judge", b"2"], STEP, (&[], &[]), 4096)?;
+    assert_eq!(rt; told.status, Status::Done);
+    assert_eq!(rt; told.written.as_slice(), VERDICTS);
+    Ok(())
+}
+
+#[test]
+fn only_judge_and_a_count_is_a_command(rt: HostRuntime) -> Result<(), Fail> {
+    let shapes: [(&[&[u8]], Status); 12] = [
+        (&[b"judge", b"1"], Status::Done),
+        (&[b"judge", b"32"], Status::Done),
+        (&[], Status::Usage),
+        (&[b"judge"], Status::Usage),
+        (&[b"judge", b"0"], Status::Usage),
+        (&[b"judge", b"33"], Status::Usage),
+        (&[b"judge", b"04"], Status::Usage),
+        (&[b"judge", b"+4"], Status::Usage),
+        (&[b"judge", b""], Status::Usage),
+        (&[b"judge", b"4", b"4"], Status::Usage),
+        (&[b"Judge", b"4"], Status::Usage),
+        (&[b"frames", b"5"], Status::Usage),
+    ];
+    for (words, status) in shapes {
+        let told = judged(rt.alloc(), words, b"", (&[], &[]), 0)?;
+        assert_eq!(rt; told.status, status, "at {words:?}");
+        assert!(rt; told.written.is_empty());
+    }
+    Ok(())
+}
+
+#[test]
+fn the_first_bad_row_and_its_least_rule_are_told(rt: HostRuntime) -> Result<(), Fail> {
+    let rows: [(&[u8], u64, Reason, &[u8]); 14] = [
+        (
+            b"1,0,0,0,0,0\n2,0,0,0,0,0,0\n",
+            1,
+            Reason::Fields,
+            b"bad,1,2\n",
+        ),
+        (
+            b"1,0,0,0,0,0,0\n2,x,0,0,0,0,0\n3,0,0,0,0,0,0\n",
+            2,
+            Reason::Number,
+            b"bad,2,3\n",
+        ),
+        (
+            b"1,0,0,0,0,0,0\n2,0,0,0,0,0,32768\n",
+            2,
+            Reason::Range,
+            b"bad,2,4\n",
+        ),
+        (
+            b"1,0,0,0,0,0,0\n1,0,0,0,0,0,0",
+            2,
+            Reason::Order,
+            b"bad,2,8\n",
+        ),
+        (b"x,0,0,0,0,0\n", 1, Reason::Fields, b"bad,1,2\n"),
+        (b"-1,x,0,0,0,0,0\n", 1, Reason::Number, b"bad,1,3\n"),
+        (
+            b"5,0,0,0,0,0,0\n4294967296,0,0,0,0,0,0\n",
+            2,
+            Reason::Range,
+            b"bad,2,4\n",
+        ),
+        (
+            b"5,0,0,0,0,0,0\n4,-32769,0,0,0,0,0\n",
+            2,
+            Reason::Range,
+            b"bad,2,4\n",
+        ),
+        (b"-1,0,0,0,0,0,0\n", 1, Reason::Range, b"bad,1,4\n"),
+        (
+            b"3,0,0,0,0,0,0\n2,0,0,0,0,0,0\n2,0\n",
+            2,
+            Reason::Order,
+            b"bad,2,8\n",
+        ),
+        (
+            b"1,0,0,0,0,0,0\n2,0,0,0,0,0,0\n3,0,0,0,0,0,0,\n",
+            3,
+            Reason::Fields,
+            b"bad,3,2\n",
+        ),
+        (b"1,0,0,0,0,0,0\n\n\"\"\n", 2, Reason::Fields, b"bad,2,2\n"),
+        (b"1,0,0,0,0,0, 0\n", 1, Reason::Number, b"bad,1,3\n"),
+        (b"#,0,0,0,0,0,0\n", 1, Reason::Number, b"bad,1,3\n"),
+    ];
+    for (input, row, reason, line) in rows {
+        let told = judged(rt.alloc(), &[b"judge", b"4"], input, (&[], &[]), 64)?;
+        assert_eq!(rt;
+            told.status,
+            Status::BadInput { row, reason },
+            "at {input:?}"
+        );
+        assert_eq!(rt; told.written.as_slice(), line);
+    }
+    Ok(())
+}
+
+#[test]
+fn each_failing_call_has_its_answer(rt: HostRuntime) -> Result<(), Fail> {
+    let alloc = rt.alloc();
+    let words: &[&[u8]] = &[b"judge", b"2"];
+    // The input takes one read, and a second one finds its end.
+    for call in 0..2 {
+        let told = judged(alloc, words, STEP, (&[call], &[]), 4096)?;
+        assert_eq!(rt; told.status, Status::ReadFault);
+        assert!(rt; told.written.is_empty());
+    }
+    let told = judged(alloc, words, STEP, (&[2], &[1]), 4096)?;
+    assert_eq!(rt; told.status, Status::Done);
+    assert_eq!(rt; told.written.as_slice(), VERDICTS);
+    let told = judged(alloc, words, STEP, (&[], &[0]), 4096)?;
+    assert_eq!(rt; told.status, Status::WriteFault);
+    assert!(rt; told.written.is_empty());
+    let told = judged(alloc, words, STEP, (&[], &[]), 100)?;
+    assert_eq!(rt; told.status, Status::WriteFault);
+    assert!(rt; told.written.is_empty());
+    let bad = Status::BadInput {
+        row: 1,
+        reason: Reason::Fields,
+    };
+    let told = judged(alloc, words, b"1\n", (&[], &[0]), 64)?;
+    assert_eq!(rt; told.status, bad);
+    assert!(rt; told.written.is_empty());
+    Ok(())
+}
+
+#[test]
+fn the_largest_input_is_read_and_a_larger_one_is_not(rt: HostRuntime) -> Result<(), Fail> {
+    let alloc = rt.alloc();
+    let mut input = vec![in alloc; b'\n'; 16_777_216]?;
+    let told = judged(alloc, &[b"judge", b"4"], &input, (&[], &[]), 0)?;
+    assert_eq!(rt; told.status, Status::Done);
+    assert!(rt; told.written.is_empty());
+    input.push(b'\n')?;
+    let told = judged(alloc, &[b"judge", b"4"], &input, (&[], &[]), 0)?;
+    assert_eq!(rt; told.status, Status::TooLarge);
+    assert!(rt; told.written.is_empty());
+    Ok(())
+}

@@ -1,0 +1,5 @@
+use Rattle.ld_base.proofs.Accepted.{AreInRange-from_no_fault}
+use Rattle.ld_base.proofs.settings.Settings.fields.Goals as goal
+
+pub returns-clause-in_range : goal.returns-clause-in_range
+returns-clause-in_range c = AreInRange-from_no_fault c.self.inside.fields c.self.invariant

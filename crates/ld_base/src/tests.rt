@@ -1,0 +1,74 @@
+use crate::{BadSetting, Failed, Fields, Key, MemorySink, MemorySource, Settings, Sink, Source};
+use std::alloc::Global;
+use std::test::Fail;
+
+// Fields and what `Settings::new` says of them.
+#[derive(Clone, Copy)]
+struct Case {
+    fields: Fields,
+    refused: Option<BadSetting>,
+}
+
+#[test]
+fn a_message_fits_its_channel(rt: HostRuntime) {
+    let mut one_channel = Fields::usual(2, 1);
+    one_channel.spacing = 5000;
+    one_channel.cycle = 4;
+    let mut long_limit = Fields::usual(2, 5);
+    long_limit.limit = 48_001;
+    let mut same_words = Fields::usual(2, 5);
+    same_words.worda = 223;
+    let mut two_out_of_range = Fields::usual(4, 5);
+    two_out_of_range.misses = 11;
+    let needed = BadSetting::ChannelTooSlow { needed: 1125 };
+    let most = BadSetting::LimitTooLong { most: 48_000 };
+    let cases = [
+        Case {
+            fields: one_channel,
+            refused: None,
+        },
+        Case {
+            fields: Fields::usual(2, 4),
+            refused: Some(needed),
+        },
+        Case {
+            fields: Fields::usual(2, 5),
+            refused: None,
+        },
+        Case {
+            fields: long_limit,
+            refused: Some(most),
+        },
+        Case {
+            fields: same_words,
+            refused: Some(BadSetting::SameWords),
+        },
+        Case {
+            fields: two_out_of_range,
+            refused: Some(BadSetting::Range(Key::Stations)),
+        },
+    ];
+    for case in cases {
+        assert_eq!(rt; Settings::new(case.fields).err(), case.refused);
+    }
+}
+
+#[test]
+fn listed_calls_fail(rt: HostRuntime) -> Result<(), Fail> {
+    let alloc: Global = rt.alloc();
+    let mut source = MemorySource::new(Vec::from_slice(alloc, b"abc")?, vec![in alloc; 1u64]?);
+    let mut into = [0u8; 2];
+    assert_eq!(rt; source.read(&mut into), Ok(2));
+    assert_eq!(rt; source.read(&mut into), Err(Failed));
+    assert_eq!(rt; source.read(&mut into), Ok(1));
+    assert_eq!(rt; source.read(&mut into), Ok(0));
+    let Ok(mut sink) = MemorySink::new(4, vec![in alloc; 0u64]?) else {
+        assert!(rt; false);
+        return Ok(());
+    };
+    assert_eq!(rt; sink.write(b"ab"), Err(Failed));
+    assert_eq!(rt; sink.write(b"ab"), Ok(2));
+    assert_eq!(rt; sink.write(b"cde"), Err(Failed));
+    assert_eq!(rt; sink.written(), b"ab".as_slice());
+    Ok(())
+}

@@ -1,0 +1,5 @@
+pub mod Columns
+pub mod Judged
+pub mod Outs
+pub mod Regions
+pub mod Runs

@@ -1,0 +1,24 @@
+-- What a trip rule keeps of the sets that it judged, and which lists of sets it stands for.
+use Rattle.std.specs.Prelude.{◌≡◌, ℕ, suc, ◌<◌, ◌≤◌, true, false, List, slice_index}
+use Rattle.ld_base.specs.declared.fields.Fields.{Fields}
+use Rattle.ld_base.specs.declared.phases.SampleSet.{SampleSet}
+use Rattle.phasor.specs.Window.{Kept}
+use Rattle.phasor.specs.Window as window
+use Rattle.trip_logic.specs.TripAt.{outs_before}
+
+-- the settings, the last cycle of sets, and for each phase how many consecutive sets were outside, up to the count of a trip
+pub record Progress : Type 0 where
+  pub settings : Fields
+  pub window : Kept
+  pub runs : List ℕ
+
+-- the phase was outside in exactly the last `run` sets judged, or in at least so many where that is the count of a trip
+pub record IsRun (settings : Fields) (judged : List SampleSet) (stop phase run : ℕ) : Type 0 where
+  pub capped : run ≤ settings.count
+  pub outside : outs_before settings judged phase run stop ≡ true
+  pub ends : run < settings.count → outs_before settings judged phase (suc run) stop ≡ false
+
+-- a trip rule stands for the sets that it judged
+pub record StandsFor (trip : Progress) (judged : List SampleSet) : Type 0 where
+  pub window : window.StandsFor trip.window judged
+  pub runs : (phase : ℕ) → phase < 3 → IsRun trip.settings judged trip.window.next phase (slice_index trip.runs phase)

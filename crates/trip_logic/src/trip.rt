@@ -1,0 +1,158 @@
+ghost use Rattle.std.specs.Prelude.{◌≡◌, ℕ, ◌<◌, ◌≤◌, ◌+◌, ◌++◌, [], ◌∷◌, List, IfOk};
+ghost use Rattle.std.specs.Option.{ForSome};
+ghost use Rattle.ld_base.specs.Settings.{AreInRange};
+ghost use Rattle.ld_base.specs.declared.phases.SampleSet.{SampleSet};
+ghost use Rattle.phasor.specs.Sizes.{AreWithin};
+ghost use Rattle.trip_logic.specs.Progress.{StandsFor};
+ghost use Rattle.trip_logic.specs.Steps.{phases_outside, run_after, runs_after, verdict_of, verdicts_of};
+ghost use Rattle.trip_logic.specs.TripAt.{is_outside, sector_of, verdicts};
+
+use crate::Verdict;
+use alpha_plane::Region;
+use ld_base::{Fields, NoMemory, SampleSet, Settings};
+use phasor::{Phasor, Window};
+use std::marker::Model;
+
+/// The trip rule of a line, with what it keeps of the sets judged so far.
+#[derive(Drop)]
+pub struct Trip {
+    settings: Settings,
+    region: Region,
+    window: Window,
+    runs: [u8; 3],
+}
+
+impl Model for Trip {
+    ghost use Rattle.std.specs.Prelude.{◌≡◌};
+    ghost use Rattle.trip_logic.specs.Progress.{Progress};
+
+    ghost Value = { Progress };
+
+    ghost use Rattle.trip_logic.specs.TripAt.{sector_of};
+
+    ghost view = { λ t. record { settings = t.settings; window = t.window; runs = t.runs } };
+
+    ghost invariant = { λ t. (t.region ≡ sector_of t.settings) × (t.window.cycle ≡ t.settings.cycle) };
+}
+
+impl Trip {
+    /// The trip rule of these settings, before the first set.
+    pub fn new(s: &Settings) -> Result<Trip, NoMemory>
+        ensures settings { IfOk result (λ t. t.settings ≡ s.now) }
+        ensures next { IfOk result (λ t. t.window.next ≡ 0) }
+        ensures stands { IfOk result (λ t. StandsFor t []) }
+    {
+        let settings = *s;
+        let fields = settings.fields();
+        let Ok(region) = Region::new(fields.rn, fields.rd, fields.p, fields.q) else {
+            unreachable!()
+        };
+        Ok(Trip {
+            settings,
+            region,
+            window: Window::new(fields.cycle),
+            runs: [0; 3],
+        })
+    }
+
+    /// Judges the next set: the verdicts of the phases a, b and c.
+    pub fn judge(&mut self, set: &SampleSet) -> [Verdict; 3]
+        requires { self.old.window.next ≤ set.now.number }
+        ensures settings { self.new.settings ≡ self.old.settings }
+        ensures next { self.new.window.next ≡ set.now.number + 1 }
+        ensures verdicts { (judged : List SampleSet) → StandsFor self.old judged
+            → result ≡ verdicts self.old.settings (judged ++ set.now ∷ []) set.now.number }
+        ensures stands { (judged : List SampleSet) → StandsFor self.old judged
+            → StandsFor self.new (judged ++ set.now ∷ []) }
+        ensures earlier { (judged : List SampleSet) (n : ℕ) → n < set.now.number
+            → verdicts self.old.settings (judged ++ set.now ∷ []) n ≡ verdicts self.old.settings judged n }
+    {
+        self.window.push(set.number, &set.values);
+        let fields = self.settings.fields();
+        let outside = phases_outside(&fields, &self.region, self.window.sums());
+        self.runs = runs_after(&self.runs, outside, fields.count);
+        verdicts_of(&self.runs, outside, fields.count)
+    }
+}
+
+// For each phase whether its sums lie outside. None where there are no sums.
+fn phases_outside(
+    fields: &Fields,
+    region: &Region,
+    sums: Option<[[Phasor; 3]; 3]>,
+) -> Option<[bool; 3]>
+    requires region { region.now ≡ sector_of fields.now }
+    requires in_range { AreInRange fields.now }
+    requires size { ForSome sums (AreWithin 34) }
+    ensures { result ≡ phases_outside fields.now sums }
+{
+    let sums = sums?;
+    Some([
+        is_outside(fields, region, &sums, 0),
+        is_outside(fields, region, &sums, 1),
+        is_outside(fields, region, &sums, 2),
+    ])
+}
+
+// Whether a phase's sums lie outside.
+fn is_outside(fields: &Fields, region: &Region, sums: &[[Phasor; 3]; 3], phase: usize) -> bool
+    requires region { region.now ≡ sector_of fields.now }
+    requires in_range { AreInRange fields.now }
+    requires size { AreWithin 34 sums.now }
+    requires phase { phase < 3 }
+    ensures { result ≡ is_outside fields.now phase sums.now }
+{
+    let column = [sums[0][phase], sums[1][phase], sums[2][phase]];
+    let stations = usize::from(fields.stations);
+    region.outside_all(&column[..stations], fields.pickup, fields.cycle)
+}
+
+// How many consecutive sets were outside, up to `count`, after one more.
+fn runs_after(runs: &[u8; 3], outside: Option<[bool; 3]>, count: u8) -> [u8; 3]
+    ensures { result ≡ runs_after runs.now outside count }
+{
+    match outside {
+        None => [0; 3],
+        Some(outside) => [
+            run_after(runs[0], outside[0], count),
+            run_after(runs[1], outside[1], count),
+            run_after(runs[2], outside[2], count),
+        ],
+    }
+}
+
+fn run_after(run: u8, outside: bool, count: u8) -> u8
+    ensures { result ≡ run_after run outside count }
+{
+    if outside {
+        count.min(run.saturating_add(1))
+    } else {
+        0
+    }
+}
+
+// The verdicts after these runs of consecutive sets outside.
+fn verdicts_of(runs: &[u8; 3], outside: Option<[bool; 3]>, count: u8) -> [Verdict; 3]
+    ensures { result ≡ verdicts_of runs.now outside count }
+{
+    match outside {
+        None => [Verdict::Waiting; 3],
+        Some(_) => [
+            verdict_of(runs[0], count),
+            verdict_of(runs[1], count),
+            verdict_of(runs[2], count),
+        ],
+    }
+}
+
+fn verdict_of(run: u8, count: u8) -> Verdict
+    ensures { result ≡ verdict_of run count }
+{
+    if run == count {
+        Verdict::Trip
+    } else if run > 0 {
+        Verdict::Outside
+    } else {
+        Verdict::Restrain
+    }
+}
