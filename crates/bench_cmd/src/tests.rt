@@ -1,4 +1,5 @@
 use crate::{Status, run};
+use itoa::Buffer;
 use ld_base::{MemorySink, MemorySource, Reason};
 use std::alloc::Global;
 use std::test::Fail;
@@ -50,8 +51,9 @@ fn a_step_trips_at_its_second_set(rt: HostRuntime) -> Result<(), Fail> {
 
 #[test]
 fn only_judge_and_a_count_is_a_command(rt: HostRuntime) -> Result<(), Fail> {
-    let shapes: [(&[&[u8]], Status); 12] = [
+    let shapes: [(&[&[u8]], Status); 13] = [
         (&[b"judge", b"1"], Status::Done),
+        (&[b"judge", b"4"], Status::Done),
         (&[b"judge", b"32"], Status::Done),
         (&[], Status::Usage),
         (&[b"judge"], Status::Usage),
@@ -72,72 +74,65 @@ fn only_judge_and_a_count_is_a_command(rt: HostRuntime) -> Result<(), Fail> {
     Ok(())
 }
 
+// The sets 10, 20 and 30, one of whose rows is another.
+fn with_row(alloc: Global, place: usize, row: &[u8]) -> Result<Vec<u8>, Fail> {
+    let good: [&[u8]; 3] = [b"10,0,0,0,0,0,0", b"20,0,0,0,0,0,0", b"30,0,0,0,0,0,0"];
+    let mut input = Vec::new(alloc);
+    for (k, good_row) in good.iter().enumerate() {
+        input.extend_from_slice(if k == place { row } else { good_row })?;
+        input.extend_from_slice(b"\n")?;
+    }
+    Ok(input)
+}
+
 #[test]
-fn the_first_bad_row_and_its_least_rule_are_told(rt: HostRuntime) -> Result<(), Fail> {
-    let rows: [(&[u8], u64, Reason, &[u8]); 14] = [
-        (
-            b"1,0,0,0,0,0\n2,0,0,0,0,0,0\n",
-            1,
-            Reason::Fields,
-            b"bad,1,2\n",
-        ),
-        (
-            b"1,0,0,0,0,0,0\n2,x,0,0,0,0,0\n3,0,0,0,0,0,0\n",
-            2,
-            Reason::Number,
-            b"bad,2,3\n",
-        ),
-        (
-            b"1,0,0,0,0,0,0\n2,0,0,0,0,0,32768\n",
-            2,
-            Reason::Range,
-            b"bad,2,4\n",
-        ),
-        (
-            b"1,0,0,0,0,0,0\n1,0,0,0,0,0,0",
-            2,
-            Reason::Order,
-            b"bad,2,8\n",
-        ),
-        (b"x,0,0,0,0,0\n", 1, Reason::Fields, b"bad,1,2\n"),
-        (b"-1,x,0,0,0,0,0\n", 1, Reason::Number, b"bad,1,3\n"),
-        (
-            b"5,0,0,0,0,0,0\n4294967296,0,0,0,0,0,0\n",
-            2,
-            Reason::Range,
-            b"bad,2,4\n",
-        ),
-        (
-            b"5,0,0,0,0,0,0\n4,-32769,0,0,0,0,0\n",
-            2,
-            Reason::Range,
-            b"bad,2,4\n",
-        ),
-        (b"-1,0,0,0,0,0,0\n", 1, Reason::Range, b"bad,1,4\n"),
-        (
-            b"3,0,0,0,0,0,0\n2,0,0,0,0,0,0\n2,0\n",
-            2,
-            Reason::Order,
-            b"bad,2,8\n",
-        ),
-        (
-            b"1,0,0,0,0,0,0\n2,0,0,0,0,0,0\n3,0,0,0,0,0,0,\n",
-            3,
-            Reason::Fields,
-            b"bad,3,2\n",
-        ),
-        (b"1,0,0,0,0,0,0\n\n\"\"\n", 2, Reason::Fields, b"bad,2,2\n"),
-        (b"1,0,0,0,0,0, 0\n", 1, Reason::Number, b"bad,1,3\n"),
-        (b"#,0,0,0,0,0,0\n", 1, Reason::Number, b"bad,1,3\n"),
+fn a_bad_row_and_its_least_rule_are_told(rt: HostRuntime) -> Result<(), Fail> {
+    // Each rule alone and beside a greater one. No number comes too early in the first row.
+    let rows: [(&[u8], Reason, u8, usize); 8] = [
+        (b"15,0,0,0,0,0", Reason::Fields, b'2', 0),
+        (b"x,0,0,0,0,40000,0,", Reason::Fields, b'2', 0),
+        (b"15,0,0,-,0,0,0", Reason::Number, b'3', 0),
+        (b"-1,0,0,0, 0,0,40000", Reason::Number, b'3', 0),
+        (b"15,0,0,0,0,0,32768", Reason::Range, b'4', 0),
+        (b"0,-32769,0,0,0,0,0", Reason::Range, b'4', 0),
+        (b"4294967296,0,0,0,0,0,0", Reason::Range, b'4', 0),
+        (b"10,0,0,0,0,0,0", Reason::Order, b'8', 1),
     ];
-    for (input, row, reason, line) in rows {
+    for (row, reason, digit, first) in rows {
+        for place in first..3 {
+            let input = with_row(rt.alloc(), place, row)?;
+            let told = judged(rt.alloc(), &[b"judge", b"4"], &input, (&[], &[]), 64)?;
+            let bad = Status::BadInput {
+                row: place as u64 + 1,
+                reason,
+            };
+            assert_eq!(rt; told.status, bad, "at {row:?}");
+            let line = [
+                b'b',
+                b'a',
+                b'd',
+                b',',
+                b'1' + place as u8,
+                b',',
+                digit,
+                b'\n',
+            ];
+            assert_eq!(rt; told.written.as_slice(), line.as_slice());
+        }
+    }
+    Ok(())
+}
+
+#[test]
+fn the_first_of_two_bad_rows_is_told(rt: HostRuntime) -> Result<(), Fail> {
+    let inputs: [(&[u8], &[u8]); 3] = [
+        (b"3,0,0,0,0,0,0\n2,0,0,0,0,0,0\n2,0\n", b"bad,2,8\n"),
+        (b"#,0,0,0,0,0,0\n1\n", b"bad,1,3\n"),
+        (b"1,0,0,0,0,0,0\n\n\"\"\n", b"bad,2,2\n"),
+    ];
+    for (input, line) in inputs {
         let told = judged(rt.alloc(), &[b"judge", b"4"], input, (&[], &[]), 64)?;
-        assert_eq!(rt;
-            told.status,
-            Status::BadInput { row, reason },
-            "at {input:?}"
-        );
-        assert_eq!(rt; told.written.as_slice(), line);
+        assert_eq!(rt; told.written.as_slice(), line, "at {input:?}");
     }
     Ok(())
 }
@@ -182,5 +177,25 @@ fn the_largest_input_is_read_and_a_larger_one_is_not(rt: HostRuntime) -> Result<
     let told = judged(alloc, &[b"judge", b"4"], &input, (&[], &[]), 0)?;
     assert_eq!(rt; told.status, Status::TooLarge);
     assert!(rt; told.written.is_empty());
+    Ok(())
+}
+
+#[test]
+fn a_text_is_written_in_pieces(rt: HostRuntime) -> Result<(), Fail> {
+    let alloc = rt.alloc();
+    let words: &[&[u8]] = &[b"judge", b"4"];
+    // A thousand rows, each of which gives nine bytes.
+    let mut input = Vec::new(alloc);
+    for number in 1000..2000u32 {
+        input.extend_from_slice(Buffer::new().format(number).as_bytes())?;
+        input.extend_from_slice(b",0,0,0,0,0,0\n")?;
+    }
+    let whole = judged(alloc, words, &input, (&[], &[]), 9000)?;
+    assert_eq!(rt; whole.status, Status::Done);
+    assert_eq!(rt; whole.written.len(), 9000);
+    let front = judged(alloc, words, &input, (&[], &[1]), 9000)?;
+    assert_eq!(rt; front.status, Status::WriteFault);
+    assert_eq!(rt; front.written.len(), 4096);
+    assert!(rt; whole.written.starts_with(&front.written));
     Ok(())
 }
