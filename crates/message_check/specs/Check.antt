@@ -1,0 +1,28 @@
+-- Check: the remainder of a message. (CRC-32/BZIP2.)
+use Rattle.std.specs.Prelude.{ℕ, ◌+◌, ◌-◌, ◌*◌, ◌^◌, ◌<◌, List, length, fold, bit_xor}
+use Rattle.std.specs.List.{AllByRecursion}
+use Rattle.message_check.specs.Polynomials.{IsRemainder}
+
+-- the divisor: x^32 and the polynomial 0x04C11DB7
+abbrev pub divisor : ℕ
+divisor = 0x104C11DB7
+
+-- 32 ones
+abbrev pub ones : ℕ
+ones = 2 ^ 32 - 1
+
+-- bytes as a polynomial, the highest bit of the first byte first
+abbrev pub polynomial : List ℕ → ℕ
+polynomial bytes = fold (λ sum byte. 256 * sum + byte) 0 bytes
+
+-- what is divided: the bytes times x^32, and 32 ones in front of them
+abbrev pub dividend : List ℕ → ℕ
+dividend bytes = bit_xor (polynomial bytes * 2 ^ 32) (ones * 2 ^ (8 * length bytes))
+
+-- the check of some bytes: the remainder of the dividend by the divisor, and 32 ones added to it
+abbrev pub IsCheck : List ℕ → ℕ → Type 0
+IsCheck bytes check = IsRemainder 32 divisor (dividend bytes) (bit_xor check ones)
+
+-- numbers that are bytes
+abbrev pub AreBytes : List ℕ → Type 0
+AreBytes bytes = AllByRecursion (λ byte. byte < 256) bytes

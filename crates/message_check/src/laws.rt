@@ -1,0 +1,23 @@
+//! The laws of the check, each the contract of a function that does nothing.
+
+ghost use Rattle.std.specs.Prelude.{◌≡◌, ◌≢◌, ◌≤◌, ◌<◌, ◌++◌, ℕ, List, length};
+ghost use Rattle.message_check.specs.Check.{AreBytes, IsCheck, divisor};
+ghost use Rattle.message_check.specs.Polynomials.{IsRemainder};
+
+/// Each polynomial has a remainder by the divisor.
+pub fn a_remainder_exists()
+    ensures { (dividend : ℕ) → (r : ℕ) × IsRemainder 32 divisor dividend r }
+{}
+
+/// And no other.
+pub fn a_remainder_is_unique()
+    ensures { (dividend r s : ℕ) → IsRemainder 32 divisor dividend r → IsRemainder 32 divisor dividend s → r ≡ s }
+{}
+
+/// Two lists of bytes of one length that differ, and only within four consecutive bytes, have different checks.
+pub fn damage_within_four_bytes_is_seen()
+    ensures { (front damaged sent back : List ℕ) (check other : ℕ)
+        → AreBytes damaged → AreBytes sent → AreBytes back
+        → length damaged ≡ length sent → length sent ≤ 4 → damaged ≢ sent
+        → IsCheck (front ++ (sent ++ back)) check → IsCheck (front ++ (damaged ++ back)) other → check ≢ other }
+{}
