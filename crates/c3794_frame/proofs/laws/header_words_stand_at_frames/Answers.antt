@@ -1,0 +1,5 @@
+use Rattle.c3794_frame.proofs.Streams.{word_at_frame}
+use Rattle.c3794_frame.proofs.laws.header_words_stand_at_frames.Goals as goal
+
+pub returns : goal.returns
+returns c words odd which bytes p = word_at_frame words odd which bytes p
