@@ -1,6 +1,7 @@
 -- FrameOf: the layout of a frame, by the position of its bits. (IEEE C37.94 frame; the profile is this project's own.)
-use Rattle.std.specs.Prelude.{◌≡◌, ℕ, ◌+◌, ◌-◌, ◌*◌, ◌/◌, ◌%◌, ◌<◌, ◌≤◌, Bool, true, false, if◌then◌else◌, List, slice_index}
+use Rattle.std.specs.Prelude.{◌≡◌, ℕ, ◌+◌, ◌-◌, ◌*◌, ◌<◌, ◌≤◌, Bool, true, false, if◌then◌else◌, List}
 use Rattle.std.specs.Int.{bit_at}
+pub use Rattle.ld_base.specs.Bits.{byte_bit, line_bit}
 use Rattle.ld_base.specs.declared.words.Words.{Words}
 
 -- what a frame carries: which header word, the count of channels, the yellow bit, and twelve bytes of payload
@@ -9,14 +10,6 @@ pub record Layout : Type 0 where
   pub channels : ℕ
   pub yellow : Bool
   pub payload : List ℕ
-
--- a bit of a byte, the highest first
-abbrev pub byte_bit : ℕ → ℕ → ℕ
-byte_bit byte k = bit_at byte (7 - k)
-
--- a bit of a line, the highest bit of the first byte first
-abbrev pub line_bit : List ℕ → ℕ → ℕ
-line_bit bytes i = byte_bit (slice_index bytes (i / 8)) (i % 8)
 
 -- a truth value as a bit
 abbrev pub bit_of : Bool → ℕ

@@ -1,2 +1,4 @@
-pub mod Sizes
 pub mod Accepted
+pub mod ChunkBits
+pub mod ChunkReads
+pub mod Sizes

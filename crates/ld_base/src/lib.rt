@@ -1,6 +1,7 @@
 //! What every layer of linediff speaks of: stamps, stations, samples, settings, wide numbers and the outside.
 #![tactic(auto)]
 
+mod chunk;
 mod fields;
 mod memory;
 mod outside;
@@ -12,6 +13,7 @@ mod ticks;
 mod wide;
 mod words;
 
+pub use chunk::Chunk;
 pub use fields::{Fields, Key};
 pub use memory::{MemorySink, MemorySource, SureSource};
 pub use outside::{Failed, NoMemory, Sink, Source};

@@ -1,4 +1,6 @@
-use crate::{BadSetting, Failed, Fields, Key, MemorySink, MemorySource, Settings, Sink, Source};
+use crate::{
+    BadSetting, Chunk, Failed, Fields, Key, MemorySink, MemorySource, Settings, Sink, Source,
+};
 use std::alloc::Global;
 use std::test::Fail;
 
@@ -71,4 +73,20 @@ fn listed_calls_fail(rt: HostRuntime) -> Result<(), Fail> {
     assert_eq!(rt; sink.write(b"cde"), Err(Failed));
     assert_eq!(rt; sink.written(), b"ab".as_slice());
     Ok(())
+}
+
+#[test]
+fn a_chunk_keeps_its_first_bits(rt: HostRuntime) {
+    let bytes = [0b1010_1111; 32];
+    assert!(rt; Chunk::new(257, bytes).is_none());
+    let Some(chunk) = Chunk::new(11, bytes) else {
+        assert!(rt; false);
+        return;
+    };
+    assert_eq!(rt; chunk.bits(), 11);
+    let mut front = [0; 32];
+    front[0] = 0b1010_1111;
+    front[1] = 0b1010_0000;
+    assert_eq!(rt; Some(chunk), Chunk::new(11, front));
+    assert!(rt; Some(chunk) != Chunk::new(12, front));
 }
