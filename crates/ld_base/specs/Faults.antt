@@ -1,5 +1,7 @@
 -- The counts of faults that sources, sinks and wires keep.
-use Rattle.std.specs.Prelude.{◌≡◌, ◌⊎◌, ℕ, ◌+◌, ◌-◌, ◌^◌, ◌<◌, ◌≤◌, nat_lt, if◌then◌else◌, is_ok, Result}
+use Rattle.std.specs.Prelude.{◌≡◌, ◌⊎◌, ℕ, ◌+◌, ◌-◌, ◌^◌, ◌<◌, ◌≤◌, nat_lt, if◌then◌else◌, is_ok, Result, Ok, Err}
+use Rattle.ld_base.specs.declared.wire.WireError.{WireError}
+use Rattle.ld_base.specs.declared.wire.WireError.TheVariants as wire
 
 -- the last value of a count, where it stays
 abbrev pub last_count : ℕ
@@ -16,3 +18,9 @@ Rose old new = (old < new) ⊎ (last_count ≤ new)
 -- a failed call is counted, and no other is
 abbrev pub CountsFaults : {T E : Type 0} → ℕ → ℕ → Result T E → Type 0
 CountsFaults old new result = new ≡ (if is_ok result then old else next_count old)
+
+-- a failed `send` is counted, and want of memory isn't
+abbrev pub CountsSendFaults : {T : Type 0} → ℕ → ℕ → Result T WireError → Type 0
+CountsSendFaults old new (Ok _) = new ≡ old
+CountsSendFaults old new (Err wire.Failed) = new ≡ next_count old
+CountsSendFaults old new (Err wire.NoMemory) = new ≡ old

@@ -1,5 +1,12 @@
 pub mod Bits
 pub mod Chunk
+pub mod Ends
 pub mod Faults
 pub mod Memory
+pub mod Message
+pub mod Packing
+pub mod Piece
+pub mod Script
 pub mod Settings
+pub mod Ticks
+pub mod Words

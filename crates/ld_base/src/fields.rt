@@ -1,7 +1,8 @@
 //! The settings of a line as they are handed in, each by its key.
 
-ghost use Rattle.std.specs.Prelude.{◌≡◌};
-ghost use Rattle.ld_base.specs.Settings.{within, within_signed, ranges, key_out_of_range, usual};
+ghost use Rattle.std.specs.Prelude.{◌≡◌, ◌&&◌, nat_le, int_le, pos, unsigned_abs};
+ghost use Rattle.ld_base.specs.Settings.{is_within, range_of, ranges, key_out_of_range, usual};
+ghost use Rattle.ld_base.specs.declared.fields.Key.TheVariants as key;
 
 /// The settings by name, in the order in which their ranges are looked at.
 #[derive(Clone, Copy, Debug, PartialEq, Eq, Hash)]
@@ -111,9 +112,9 @@ impl Fields {
             (Key::Count, within(u32::from(self.count), 1, 32)),
             (Key::Pickup, within(u32::from(self.pickup), 1, 32_767)),
             (Key::Rn, within(self.rn, 1, 10_000)),
-            (Key::Rd, within(self.rd, 1, self.rn)),
-            (Key::P, within_signed(self.p, -10_000, 10_000)),
-            (Key::Q, within_signed(self.q, 1, 10_000)),
+            (Key::Rd, is_divisor(self.rd, self.rn)),
+            (Key::P, is_sideways(self.p)),
+            (Key::Q, is_upward(self.q)),
             (Key::WordA, within(u32::from(self.worda), 128, 255)),
             (Key::WordB, within(u32::from(self.wordb), 128, 255)),
             (Key::Misses, within(u32::from(self.misses), 1, 10)),
@@ -133,13 +134,26 @@ impl Fields {
 }
 
 fn within(value: u32, low: u32, high: u32) -> bool
-    ensures { result ≡ within low high value }
+    ensures { result ≡ is_within (low, high) value }
 {
     (low..=high).contains(&value)
 }
 
-fn within_signed(value: i32, low: i32, high: i32) -> bool
-    ensures { result ≡ within_signed low high value }
+// Whether the outer radius `rn / rd` is at least 1.
+fn is_divisor(rd: u32, rn: u32) -> bool
+    ensures { result ≡ (is_within (range_of key.Rd) rd && nat_le rd rn) }
 {
-    (low..=high).contains(&value)
+    within(rd, 1, 10_000) && rd <= rn
+}
+
+fn is_sideways(p: i32) -> bool
+    ensures { result ≡ is_within (range_of key.P) (unsigned_abs p) }
+{
+    within(p.unsigned_abs(), 0, 10_000)
+}
+
+fn is_upward(q: i32) -> bool
+    ensures { result ≡ (is_within (range_of key.Q) (unsigned_abs q) && int_le (pos 0) q) }
+{
+    within(q.unsigned_abs(), 1, 10_000) && q >= 0
 }

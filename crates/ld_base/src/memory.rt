@@ -44,9 +44,7 @@ impl MemorySource {
 }
 
 impl Source for MemorySource {
-    ghost bytes_left = { λ s. Some s.left };
-
-    ghost faults = { λ s. s.faults };
+    ghost end = { λ s. record { bytes = Some s.left; faults = s.faults } };
 
     fn read(&mut self, into: &mut [u8]) -> Result<usize, Failed>
         ensures count { IfOk result (λ n. n ≤ length into.new) }
@@ -92,9 +90,7 @@ impl SureSource {
 }
 
 impl Source for SureSource {
-    ghost bytes_left = { λ s. Some s };
-
-    ghost faults = { λ _. 0 };
+    ghost end = { λ s. record { bytes = Some s; faults = 0 } };
 
     fn read(&mut self, into: &mut [u8]) -> Result<usize, Failed>
         ensures count { IfOk result (λ n. n ≤ length into.new) }
@@ -170,9 +166,7 @@ impl MemorySink {
 }
 
 impl Sink for MemorySink {
-    ghost bytes_written = { λ s. Some s.bytes };
-
-    ghost faults = { λ s. s.faults };
+    ghost end = { λ s. record { bytes = Some s.bytes; faults = s.faults } };
 
     fn write(&mut self, piece: &[u8]) -> Result<usize, Failed>
         ensures count { IfOk result (λ n. n ≤ length piece.now) }

@@ -1,6 +1,7 @@
-ghost use Rattle.std.specs.Prelude.{◌≡◌, None, Some, MatchResult};
+ghost use Rattle.std.specs.Prelude.{◌≡◌, ◌≢◌, None, Some, MatchResult};
 ghost use Rattle.ld_base.specs.Settings.{setting_fault, AreInRange};
 
+use crate::Words;
 use crate::fields::{Fields, Key};
 use std::marker::Model;
 
@@ -11,7 +12,7 @@ pub const MESSAGE_BYTES: u32 = 36;
 pub const SLOT_TICKS: u32 = 125;
 
 /// How many spacings a sample may be old while its set is judged.
-pub const JUDGED_SPACINGS: u32 = 48;
+const JUDGED_SPACINGS: u32 = 48;
 
 /// Why settings are refused: the first of these that holds.
 #[derive(Clone, Copy, Debug, PartialEq, Eq)]
@@ -75,7 +76,19 @@ impl Settings {
         ensures same { result ≡ self.now }
         ensures accepted { setting_fault result ≡ None }
         ensures in_range { AreInRange result }
+        ensures words { result.worda ≢ result.wordb }
     {
         self.fields
+    }
+
+    /// The header words.
+    pub fn words(&self) -> Words
+        ensures { result ≡ record { a = self.now.worda; b = self.now.wordb } }
+    {
+        let fields = self.fields();
+        Words {
+            a: fields.worda,
+            b: fields.wordb,
+        }
     }
 }

@@ -38,3 +38,12 @@ impl Station {
         self.number
     }
 }
+
+impl Default for Station {
+    /// Station 1.
+    fn default() -> Station
+        ensures { result ≡ 1 }
+    {
+        Station { number: 1 }
+    }
+}

@@ -1,5 +1,6 @@
 use crate::{
-    BadSetting, Chunk, Failed, Fields, Key, MemorySink, MemorySource, Settings, Sink, Source,
+    BadSetting, Chunk, Failed, Fields, HandWire, Key, MemorySink, MemorySource, Settings, Sink,
+    Source, Station, Ticks, Wire, WireError, Words,
 };
 use std::alloc::Global;
 use std::test::Fail;
@@ -89,4 +90,59 @@ fn a_chunk_keeps_its_first_bits(rt: HostRuntime) {
     front[1] = 0b1010_0000;
     assert_eq!(rt; Some(chunk), Chunk::new(11, front));
     assert!(rt; Some(chunk) != Chunk::new(12, front));
+}
+
+#[test]
+fn a_chunk_gives_its_bits_and_bytes(rt: HostRuntime) {
+    let mut bytes = [0xFF; 32];
+    bytes[31] = 0b1111_1010;
+    let Some(chunk) = Chunk::new(256, bytes) else {
+        assert!(rt; false);
+        return;
+    };
+    assert_eq!(rt; chunk.bytes(), bytes);
+    assert!(rt; chunk.bit(254));
+    assert!(rt; !chunk.bit(255));
+    assert_eq!(rt; Chunk::default().bits(), 0);
+    assert_eq!(rt; Chunk::new(0, bytes), Some(Chunk::default()));
+}
+
+#[test]
+fn a_hand_wire_gives_its_chunks_in_turn(rt: HostRuntime) -> Result<(), Fail> {
+    let alloc: Global = rt.alloc();
+    let early = Chunk::new(1, [0x80; 32]).ok_or("no chunk")?;
+    let late = Chunk::new(2, [0x80; 32]).ok_or("no chunk")?;
+    let chunks = vec![in alloc; (5, early), (3, late)]?;
+    let mut wire = HandWire::new(chunks, vec![in alloc; 1u64]?, vec![in alloc; 2u64]?);
+    assert_eq!(rt; wire.quiet_until(4), 4);
+    assert_eq!(rt; wire.take(4), Ok(None));
+    assert_eq!(rt; wire.take(5), Ok(Some(early)));
+    assert_eq!(rt; wire.take(5), Err(Failed));
+    assert_eq!(rt; wire.take(5), Ok(Some(late)));
+    assert_eq!(rt; wire.take(6), Ok(None));
+    assert_eq!(rt; wire.send(6, &[0; 32]), Ok(()));
+    assert_eq!(rt; wire.send(6, &[0; 32]), Err(WireError::Failed));
+    Ok(())
+}
+
+#[test]
+fn what_is_in_range_is_taken(rt: HostRuntime) {
+    assert_eq!(rt;
+        Ticks::new(2_000_000_000_000).map(Ticks::get),
+        Some(2_000_000_000_000)
+    );
+    assert!(rt; Ticks::new(2_000_000_000_001).is_none());
+    let stations = [(0, None), (1, Some(1)), (3, Some(3)), (4, None)];
+    for (number, station) in stations {
+        assert_eq!(rt; Station::new(number).map(Station::get), station);
+    }
+    let words = [
+        (128, 255, Some((128, 255))),
+        (127, 255, None),
+        (255, 127, None),
+        (200, 200, None),
+    ];
+    for (a, b, numbers) in words {
+        assert_eq!(rt; Words::new(a, b).map(|words| words.numbers()), numbers);
+    }
 }

@@ -82,13 +82,6 @@ impl Wide {
         }
     }
 
-    /// The number without its sign.
-    pub fn size(self) -> u128
-        ensures { result ≡ unsigned_abs self }
-    {
-        self.value.unsigned_abs()
-    }
-
     /// Whether it is no greater than the other.
     pub fn is_at_most(self, other: Wide) -> bool
         ensures { result ≡ int_le self other }

@@ -1,9 +1,11 @@
-use Rattle.std.proofs.Common.{arith}
-use Rattle.ld_base.proofs.ChunkReads.{zero_bits}
+use Rattle.std.proofs.Common.{◌/◌, arith, refl, replicate}
+use Rattle.ld_base.proofs.ChunkBits.{zero_byte, zero_bit}
 use Rattle.ld_base.proofs.chunk.ChunkDefault.default.Goals as goal
 
 pub invariant_of-result : goal.invariant_of-result
 invariant_of-result c = record {
   few = omega arith;
-  padded = λ i _ h. zero_bits i h;
+  long = refl;
+  each = λ k. rw (zero_byte k) (omega arith);
+  zeros = λ i _ _. zero_bit (replicate 32 0) i (zero_byte (i / 8));
 }
