@@ -1,12 +1,12 @@
 -- The first fault of settings by its parts, and what holds of settings that have none.
-use Rattle.std.proofs.Common.{◌≡◌, ◌≢◌, ℕ, ◌≤◌, ◌≤ℤ◌, ℤ, pos, unsigned_abs, Bool, true, false, not, ◌&&◌, nat_le, int_le, List, [], ◌∷◌, Option, Some, None, option_map, find, refl, arith}
+use Rattle.std.proofs.Common.{◌≡◌, ◌≢◌, ℕ, ◌≤ℤ◌, ℤ, pos, unsigned_abs, Bool, true, false, not, ◌&&◌, nat_le, int_le, List, [], ◌∷◌, Option, Some, None, option_map, find, refl, arith}
 use Rattle.std.proofs.lemmas.Bool.Decides.{nat_tests}
 use Rattle.std.proofs.lemmas.Int.{ints}
 use Rattle.std.specs.Option.{option_or}
 use Rattle.ld_base.specs.declared.fields.Fields.{Fields}
 use Rattle.ld_base.specs.declared.fields.Key.{Key}
 use Rattle.ld_base.specs.declared.settings.BadSetting.TheVariants.{Range}
-use Rattle.ld_base.specs.Settings.{IsWithin, is_within, is_cycle, ranges, key_out_of_range, misfit, setting_fault, AreInRange}
+use Rattle.ld_base.specs.Settings.{IsWithin, is_within, ranges, key_out_of_range, misfit, setting_fault, AreInRange}
 
 -- a field outside its range is the first fault
 pub fault_of_range : (f : Fields) (k : Key) → key_out_of_range f ≡ Some k → setting_fault f ≡ Some (Range k)

@@ -1,9 +1,7 @@
 -- Reads of the bits of a chunk.
-use Rattle.std.proofs.Common.{◌≡◌, ℕ, zero, suc, ◌-◌, ◌/◌, ◌%◌, ◌^◌, ◌<◌, nat_eq, List, length, slice_index, slice_index_or, bit_and, arith, sym, ap, ◌∙◌, refl}
-use Rattle.std.specs.Int.{bit_at}
+use Rattle.std.proofs.Common.{◌≡◌, ℕ, zero, suc, ◌-◌, ◌/◌, ◌%◌, ◌^◌, ◌<◌, nat_eq, List, slice_index, slice_index_or, bit_and, arith, sym, ap, ◌∙◌, refl}
 use Rattle.std.proofs.lemmas.Nat.Bits.{shr_and_one, bit_at-lt}
-use Rattle.std.proofs.lemmas.Bool.Decides.{nat_tests}
-use Rattle.ld_base.specs.Bits.{bit_of, byte_bit, line_bit, line_bits}
+use Rattle.ld_base.specs.Bits.{bit_of, byte_bit, line_bits}
 use Rattle.ld_base.specs.Packing.{line_bits_at}
 
 -- the shift and the mask read a bit of a line

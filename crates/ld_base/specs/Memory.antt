@@ -1,5 +1,5 @@
 -- Sources, sinks and wires over memory, whose calls fail where a list says so.
-use Rattle.std.specs.Prelude.{ℕ, Bool, nat_eq, nat_le, if◌then◌else◌, List, [], ◌∷◌, drop, Option, Some, None}
+use Rattle.std.specs.Prelude.{ℕ, Bool, nat_eq, nat_le, if◌then◌else◌, List, [], ◌∷◌, Option, Some, None}
 use Rattle.std.specs.List.{list_any}
 
 -- a source: the bytes that are left, the calls that are to fail by their counts from 0, the calls and the faults so far

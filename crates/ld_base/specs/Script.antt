@@ -1,5 +1,5 @@
 -- The script of a directed line: what its rules do to the frames that are sent, and when they come. (This project's own.)
-use Rattle.std.specs.Prelude.{◌≡◌, ℕ, zero, suc, ◌+◌, ◌-◌, ◌==◌, min, max, Bool, true, false, ◌&&◌, nat_le, nat_lt, if◌then◌else◌, List, [], ◌∷◌, ◌++◌, length, map, flat_map, fold, take, drop, Option, Some, None, unwrap_or, Result, Ok, Err, slice_set, slice_index}
+use Rattle.std.specs.Prelude.{◌≡◌, ℕ, ◌+◌, ◌-◌, min, max, Bool, true, false, ◌&&◌, nat_le, nat_lt, if◌then◌else◌, List, [], ◌∷◌, ◌++◌, length, map, fold, take, drop, Option, Some, None, unwrap_or, Result, Ok, Err, slice_set, slice_index}
 use Rattle.std.specs.List.{filter, list_any}
 use Rattle.ld_base.specs.declared.rule.Act.{Act}
 use Rattle.ld_base.specs.declared.rule.Act.TheVariants as act

@@ -4,6 +4,7 @@ ghost use Rattle.std.specs.Prelude.{◌≡◌, ℕ, ◌<◌, ◌≤◌, Option, 
 ghost use Rattle.ld_base.specs.Bits.{line_bits};
 ghost use Rattle.ld_base.specs.Faults.{CountsFaults, CountsSendFaults};
 ghost use Rattle.ld_base.specs.Script.{Script, SendsBy, TakesBy};
+ghost use Rattle.ld_base.specs.Ticks.{last_asked};
 
 use crate::{Chunk, Failed};
 
@@ -29,14 +30,14 @@ pub trait Wire: Drop {
 
     /// Sends the 256 bits of a frame at a true tick.
     fn send(&mut self, at: u64, frame: &[u8; 32]) -> Result<(), WireError>
-        requires { at ≤ 60000000 }
+        requires { at ≤ last_asked }
         ensures faults { CountsSendFaults (faults self.old) (faults self.new) result }
         ensures script { (told : Script) → script self.old ≡ Some told
             → SendsBy told (script self.new) at (line_bits 256 frame.now) result };
 
     /// Takes the next chunk that has come by a true tick, where there is one.
     fn take(&mut self, at: u64) -> Result<Option<Chunk>, Failed>
-        requires { at ≤ 60000000 }
+        requires { at ≤ last_asked }
         ensures faults { CountsFaults (faults self.old) (faults self.new) result }
         ensures quiet { (from : ℕ) → from ≤ at → at < next_tick self.old from
             → (result ≡ Ok None) × (self.new ≡ self.old) }
@@ -46,7 +47,7 @@ pub trait Wire: Drop {
     /// The wire's next tick, which is not before this one. A `take` at any tick from this one up to and without that one
     /// gives no chunk and changes nothing, as long as nothing is sent.
     fn quiet_until(&self, at: u64) -> u64
-        requires { at ≤ 60000000 }
+        requires { at ≤ last_asked }
         ensures next { result ≡ next_tick self.now at }
         ensures later { at ≤ result };
 }

@@ -1,4 +1,4 @@
-use Rattle.std.proofs.Common.{◌≡◌, length, length-take, arith}
+use Rattle.std.proofs.Common.{◌≡◌, length, arith}
 use Rattle.std.proofs.lemmas.Grind.{common_steps}
 use Rattle.ld_base.proofs.ChunkBits.{zero_byte, filled_bits, filled_zeros}
 use Rattle.ld_base.proofs.chunk.first_bytes.Goals as goal

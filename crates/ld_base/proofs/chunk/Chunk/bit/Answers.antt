@@ -1,4 +1,4 @@
-use Rattle.std.proofs.Common.{◌≡◌, ◌<◌, ◌≤◌, ℕ, List, length, arith, ap, sym, ◌∙◌, subst, slice_index}
+use Rattle.std.proofs.Common.{◌≡◌, ◌<◌, ℕ, List, length, arith, ap, ◌∙◌, slice_index}
 use Rattle.ld_base.specs.Bits.{line_bits}
 use Rattle.ld_base.specs.Packing.{length-line_bits}
 use Rattle.ld_base.proofs.ChunkReads.{tested_bit}

@@ -1,4 +1,3 @@
-use Rattle.std.proofs.Common.{◌∙◌, ap}
 use Rattle.ld_base.specs.Packing.{length-line_bits, same_bytes}
 use Rattle.ld_base.proofs.chunk.ChunkPartialEq.eq.Goals as goal
 
