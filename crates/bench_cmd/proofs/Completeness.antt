@@ -2,11 +2,11 @@
 use Rattle.std.proofs.Common.{◌≡◌, ◌∙◌, sym, refl, ap, subst, inl, inr, ℕ, ◌<◌, ◌≤◌, ◌⊎◌, List, length, Option, Some, None, Result, Ok, Err, length-append, arith}
 use Rattle.std.proofs.lemmas.List.{append-nil}
 use Rattle.std.specs.Io.KnownBytes.{Consumes, IsAtEnd}
+use Rattle.ld_base.specs.Ends.{End}
 use Rattle.ld_base.specs.Faults.{Rose}
 use Rattle.bench_cmd.specs.Answers.{Answers, Completes, Written}
 use Rattle.bench_cmd.specs.Faults.{Fault}
-use Rattle.bench_cmd.specs.Transfers.{End, GaveAll, Took}
-use Rattle.bench_cmd.specs.declared.input.TheConstants.{LARGEST_INPUT}
+use Rattle.bench_cmd.specs.Transfers.{GaveAll, Took, largest_input}
 use Rattle.bench_cmd.specs.declared.status.Status.{Status}
 use Rattle.bench_cmd.specs.declared.status.Status.TheVariants as status
 
@@ -53,7 +53,7 @@ whole_written job source source' sink sink' answer told input tells calm gave w 
 
 -- where neither end fails, a small enough input gets its whole answer
 pub complete : (job : List ℕ → Result (List ℕ) Fault) (source source' sink sink' : End) (answer : Status) (told : List ℕ)
-    → source.bytes ≡ Some told → length told ≤ LARGEST_INPUT → ¬ Rose source.faults source'.faults → ¬ Rose sink.faults sink'.faults
+    → source.bytes ≡ Some told → length told ≤ largest_input → ¬ Rose source.faults source'.faults → ¬ Rose sink.faults sink'.faults
     → Answers job source source' sink sink' answer → Completes (job told) sink sink' answer
 complete job source source' sink sink' status.Done told tells few calm quiet a = whole_written job source source' sink sink' _ told a.0 tells quiet a.1 a.2
 complete job source source' sink sink' (status.BadInput row reason) told tells few calm quiet a =
@@ -61,18 +61,18 @@ complete job source source' sink sink' (status.BadInput row reason) told tells f
 complete job source source' sink sink' status.WriteFault told tells few calm quiet a = whole_written job source source' sink sink' _ told a.0 tells quiet a.1 a.2
 complete job source source' sink sink' status.ReadFault told tells few calm quiet a = absurd (calm a.1.rose)
 complete job source source' sink sink' status.TooLarge told tells few calm quiet a =
-    absurd (omega (arith, no_more_taken source'.bytes told a.0 (rw tells at a.1.taken), a.2))
+    absurd (omega (arith, no_more_taken source'.bytes told a.0 (rw tells at a.1.gave.taken), a.1.large))
 complete job source source' sink sink' status.NoMemory told tells few calm quiet a = memory_completes (job told) sink sink'
 complete job source source' sink sink' status.Usage told tells few calm quiet a = absurd a
 
 -- a source that gave all gave no more than the largest input
-gave_few : (source source' : End) (told input : List ℕ) → source.bytes ≡ Some told → GaveAll source source' input → length told ≤ LARGEST_INPUT
+gave_few : (source source' : End) (told input : List ℕ) → source.bytes ≡ Some told → GaveAll source source' input → length told ≤ largest_input
 gave_few source source' told input tells gave =
     rw (all_taken source'.bytes told input (rw tells at gave.gave.taken) gave.ended) at gave.fits
 
 -- where the source doesn't fail, a larger input is too large
 pub too_large : (job : List ℕ → Result (List ℕ) Fault) (source source' sink sink' : End) (answer : Status) (told : List ℕ)
-    → source.bytes ≡ Some told → LARGEST_INPUT < length told → ¬ Rose source.faults source'.faults
+    → source.bytes ≡ Some told → largest_input < length told → ¬ Rose source.faults source'.faults
     → Answers job source source' sink sink' answer → (answer ≡ status.TooLarge) ⊎ (answer ≡ status.NoMemory)
 too_large job source source' sink sink' status.Done told tells many calm a = let few = gave_few source source' told a.0 tells a.1 in absurd (omega arith)
 too_large job source source' sink sink' (status.BadInput row reason) told tells many calm a = let few = gave_few source source' told a.0 tells a.1 in absurd (omega arith)

@@ -1,11 +1,12 @@
 -- What one call more makes of a transfer.
-use Rattle.std.proofs.Common.{◌≡◌, ◌∙◌, sym, refl, ap, ℕ, zero, suc, ◌<◌, ◌≤◌, List, [], ◌∷◌, ◌++◌, length, take, Option, Some, None, append_assoc, length-append, arith}
+use Rattle.std.proofs.Common.{◌≡◌, ◌∙◌, sym, refl, ap, ℕ, zero, suc, ◌+◌, ◌<◌, ◌≤◌, List, [], ◌∷◌, ◌++◌, length, take, Option, Some, None, append_assoc, length-append, arith}
 use Rattle.std.proofs.lemmas.Bool.Decides.{nat_tests}
 use Rattle.std.proofs.Math.Seq.{take-append_seam}
 use Rattle.std.proofs.lemmas.List.{append-nil}
 use Rattle.std.specs.Io.KnownBytes.{Appends, Consumes, Keeps}
+use Rattle.ld_base.specs.Ends.{End}
 use Rattle.ld_base.specs.Faults.{Rose, next_count}
-use Rattle.bench_cmd.specs.Transfers.{End, Took, TookFront}
+use Rattle.bench_cmd.specs.Transfers.{GaveSome, Took, TookFront, largest_input}
 
 -- one more fault makes a count rise
 pub rose : (n : ℕ) → Rose n (next_count n)
@@ -48,6 +49,15 @@ Appends-keep (Some all) (Some more) (Some most) xs p q = rw q p
 pub Appends-none : (a : Option (List ℕ)) → Appends a a []
 Appends-none None = tt
 Appends-none (Some all) = sym (append-nil all)
+
+-- a source that gave some bytes gives a piece more
+pub GaveSome-more : (old mid new : End) (front piece : List ℕ) → GaveSome old mid front → Consumes mid.bytes new.bytes piece → new.faults ≡ mid.faults
+    → length front + length piece ≤ largest_input + 1 → GaveSome old new (front ++ piece)
+GaveSome-more old mid new front piece gave more steady few =
+    record {
+      gave = record { taken = Consumes-then old.bytes mid.bytes new.bytes front piece gave.gave.taken more; steady = steady ∙ gave.gave.steady };
+      few = rw length-append few;
+    }
 
 -- a sink that took the front of a text takes one piece more
 pub Took-more : (old mid new : End) (front piece : List ℕ) → Took old mid front → Appends mid.bytes new.bytes piece → new.faults ≡ mid.faults → Took old new (front ++ piece)

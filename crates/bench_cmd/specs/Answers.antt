@@ -1,12 +1,12 @@
 -- The answers of a run and their causes, over any command.
-use Rattle.std.specs.Prelude.{◌≡◌, ◌⊎◌, ℕ, ◌+◌, List, length, Result, Ok, Err}
+use Rattle.std.specs.Prelude.{◌≡◌, ◌⊎◌, ℕ, List, Result, Ok, Err}
+use Rattle.ld_base.specs.Ends.{End}
 use Rattle.bench_cmd.specs.Judge.{judge_rows}
 use Rattle.bench_cmd.specs.Faults.{Fault, bad_line}
 use Rattle.bench_cmd.specs.Rows.{rows_of}
-use Rattle.bench_cmd.specs.Transfers.{End, Gave, GaveAll, GaveUp, Took, TookFront, Untouched}
+use Rattle.bench_cmd.specs.Transfers.{GaveAll, GaveSome, GaveTooMuch, GaveUp, Took, TookFront, Untouched}
 use Rattle.bench_cmd.specs.declared.command.Command.{Command}
 use Rattle.bench_cmd.specs.declared.command.Command.TheVariants.{Judge}
-use Rattle.bench_cmd.specs.declared.input.TheConstants.{LARGEST_INPUT}
 use Rattle.bench_cmd.specs.declared.status.Status.{Status}
 use Rattle.bench_cmd.specs.declared.status.Status.TheVariants as status
 
@@ -35,9 +35,8 @@ Answers job source source' sink sink' (status.BadInput row reason) =
 Answers job source source' sink sink' status.WriteFault =
     (input : List ℕ) × GaveAll source source' input × Written (job input) sink sink' status.WriteFault
 Answers job source source' sink sink' status.ReadFault = (input : List ℕ) × GaveUp source source' input × Untouched sink sink'
-Answers job source source' sink sink' status.TooLarge =
-    (input : List ℕ) × Gave source source' input × (length input ≡ LARGEST_INPUT + 1) × Untouched sink sink'
-Answers job source source' sink sink' status.NoMemory = Untouched sink sink'
+Answers job source source' sink sink' status.TooLarge = (input : List ℕ) × GaveTooMuch source source' input × Untouched sink sink'
+Answers job source source' sink sink' status.NoMemory = (input : List ℕ) × GaveSome source source' input × Untouched sink sink'
 Answers job source source' sink sink' status.Usage = ⊥
 
 -- the whole text or the whole line of an outcome was written, or memory was refused

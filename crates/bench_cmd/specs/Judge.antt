@@ -79,15 +79,15 @@ abbrev pub judge_settings : ℕ → Fields
 judge_settings count = record (usual 2 5) { count = count }
 
 -- the letter of a verdict
-abbrev pub letter : Verdict → ℕ
-letter Waiting = 87
-letter Restrain = 82
-letter Outside = 79
-letter Trip = 84
+abbrev pub letter : Verdict → List ℕ
+letter Waiting = codes "W"
+letter Restrain = codes "R"
+letter Outside = codes "O"
+letter Trip = codes "T"
 
 -- the line of a set: its number, a comma, and the letters of its phases
 abbrev pub line_of : ℕ → List Verdict → List ℕ
-line_of number verdicts = decimal number ++ codes "," ++ map letter verdicts ++ codes "\n"
+line_of number verdicts = decimal number ++ codes "," ++ flat_map letter verdicts ++ codes "\n"
 
 -- the line of a set among those judged
 abbrev pub judge_line : Fields → List SampleSet → SampleSet → List ℕ

@@ -1,5 +1,4 @@
 pub mod Answers
-pub mod Codes
 pub mod Commands
 pub mod Ends
 pub mod Faults
@@ -7,4 +6,5 @@ pub mod Judge
 pub mod Numbers
 pub mod Outcomes
 pub mod Rows
+pub mod Statuses
 pub mod Transfers

@@ -27,9 +27,7 @@ impl<R: Read> ReadSource<R> {
 impl<R: Read> Source for ReadSource<R> {
     ghost use Rattle.bench_cmd.specs.Ends.{reader_of, read_faults};
 
-    ghost bytes_left = { λ s. R.remaining (reader_of s) };
-
-    ghost faults = { read_faults };
+    ghost end = { λ s. record { bytes = R.remaining (reader_of s); faults = read_faults s } };
 
     fn read(&mut self, into: &mut [u8]) -> Result<usize, Failed> {
         match self.reader.read(into) {
@@ -73,9 +71,7 @@ impl<W: Write> WriteSink<W> {
 impl<W: Write> Sink for WriteSink<W> {
     ghost use Rattle.bench_cmd.specs.Ends.{writer_of, write_faults};
 
-    ghost bytes_written = { λ s. W.contents (writer_of s) };
-
-    ghost faults = { write_faults };
+    ghost end = { λ s. record { bytes = W.contents (writer_of s); faults = write_faults s } };
 
     fn write(&mut self, piece: &[u8]) -> Result<usize, Failed> {
         match self.writer.write(piece) {
@@ -87,3 +83,6 @@ impl<W: Write> Sink for WriteSink<W> {
         }
     }
 }
+
+#[cfg(test)]
+mod tests;

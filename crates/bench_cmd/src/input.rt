@@ -7,7 +7,7 @@ use ld_base::{Failed, Source};
 use std::alloc::Global;
 
 /// The most bytes that an input has.
-pub const LARGEST_INPUT: usize = 16_777_216;
+const LARGEST_INPUT: usize = 16_777_216;
 
 /// Bytes that one call reads at most.
 const CHUNK: usize = 16_384;
@@ -17,7 +17,7 @@ const CHUNK: usize = 16_384;
 pub enum Unread {
     /// A call on the source failed.
     Failed,
-    /// One byte more than `LARGEST_INPUT` was read.
+    /// One byte more than the largest input was read.
     TooLarge,
     /// Memory was refused.
     NoMemory,
@@ -25,12 +25,8 @@ pub enum Unread {
 
 /// Reads the source to its end.
 pub(crate) fn read_input<S: Source>(alloc: Global, source: &mut S) -> Result<Vec<u8>, Unread>
-    ensures read { IfOk result (λ input.
-        GaveAll (record { bytes = S.bytes_left source.old; faults = S.faults source.old })
-        (record { bytes = S.bytes_left source.new; faults = S.faults source.new }) input.items) }
-    ensures stopped { IfErr result (λ unread.
-        StoppedBy (record { bytes = S.bytes_left source.old; faults = S.faults source.old })
-        (record { bytes = S.bytes_left source.new; faults = S.faults source.new }) unread) }
+    ensures read { IfOk result (λ input. GaveAll (S.end source.old) (S.end source.new) input.items) }
+    ensures stopped { IfErr result (λ unread. StoppedBy (S.end source.old) (S.end source.new) unread) }
 {
     let mut chunk = [0u8; CHUNK];
     let mut input = Vec::new(alloc);

@@ -1,6 +1,6 @@
 //! The command `judge`: verdicts of aligned sample sets.
 
-ghost use Rattle.std.specs.Prelude.{◌≡◌, ◌≤◌, ◌++◌, None, Some, true, false, length, IfOk, MatchOption, MatchResult, OnOk};
+ghost use Rattle.std.specs.Prelude.{◌≡◌, ◌≤◌, ◌++◌, ◌∷◌, [], None, Some, true, false, length, IfOk, MatchOption, MatchResult, OnOk};
 ghost use Rattle.csv.specs.Records.{fields_of};
 ghost use Rattle.bench_cmd.specs.Judge.{are_values_at, is_in_range, judge_rows, judge_settings, letter, line_of, numbers_of, phases_at, row_fault, set_of, set_of_numbers};
 ghost use Rattle.bench_cmd.specs.Rows.{rows_of};
@@ -123,19 +123,20 @@ fn phases_at(numbers: &[i64; FIELDS], place: usize) -> Option<Phases>
 fn write_line(text: &mut Vec<u8>, number: u32, verdicts: &[Verdict; 3]) -> Result<(), NoMemory>
     ensures { OnOk result (text.new.items ≡ text.old.items ++ line_of number verdicts.now) }
 {
-    let letters = [
+    let line = [
+        b',',
         letter(verdicts[0]),
         letter(verdicts[1]),
         letter(verdicts[2]),
+        b'\n',
     ];
-    let line = [b',', letters[0], letters[1], letters[2], b'\n'];
     text.extend_from_slice(Buffer::new().format(number).as_bytes())?;
     text.extend_from_slice(&line)?;
     Ok(())
 }
 
 fn letter(verdict: Verdict) -> u8
-    ensures { result ≡ letter verdict }
+    ensures { letter verdict ≡ result ∷ [] }
 {
     match verdict {
         Verdict::Waiting => b'W',

@@ -3,7 +3,7 @@
 ghost use Rattle.std.specs.Prelude.{ℕ, List, Option, Result};
 ghost use Rattle.bench_cmd.specs.Answers.{Answers};
 ghost use Rattle.bench_cmd.specs.Faults.{Fault};
-ghost use Rattle.bench_cmd.specs.Transfers.{End};
+ghost use Rattle.ld_base.specs.Ends.{End};
 ghost use Rattle.bench_cmd.specs.declared.status.Status.TheVariants.{ReadFault};
 
 /// Over a source whose count of faults is the constant 0, as `SureSource`'s, no run answers `ReadFault`.

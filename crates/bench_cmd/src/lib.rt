@@ -11,10 +11,12 @@ mod output;
 mod rows;
 mod runs;
 mod status;
+mod words;
 
 pub use ends::{ReadSource, WriteSink};
 pub use runs::run;
 pub use status::Status;
+pub use words::words_of;
 
 #[cfg(test)]
 mod tests;

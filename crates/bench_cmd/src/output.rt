@@ -22,12 +22,8 @@ pub enum Outcome {
 
 /// Writes the whole text, in pieces, up to the first call that fails.
 pub(crate) fn write_text<K: Sink>(sink: &mut K, text: &[u8]) -> Result<(), Failed>
-    ensures whole { OnOk result
-        (Took (record { bytes = K.bytes_written sink.old; faults = K.faults sink.old })
-        (record { bytes = K.bytes_written sink.new; faults = K.faults sink.new }) text.now) }
-    ensures front { OnErr result
-        (TookFront (record { bytes = K.bytes_written sink.old; faults = K.faults sink.old })
-        (record { bytes = K.bytes_written sink.new; faults = K.faults sink.new }) text.now) }
+    ensures whole { OnOk result (Took (K.end sink.old) (K.end sink.new) text.now) }
+    ensures front { OnErr result (TookFront (K.end sink.old) (K.end sink.new) text.now) }
 {
     let mut rest = text;
     'writing: while !rest.is_empty() {

@@ -1,6 +1,6 @@
 //! The rows of an input, one at a time.
 
-ghost use Rattle.std.specs.Prelude.{◌≡◌, [], ◌∷◌, IfOk, MatchBool};
+ghost use Rattle.std.specs.Prelude.{◌≡◌, [], ◌∷◌, IfOk, MatchBool, OnErr};
 ghost use Rattle.csv.specs.Records.{fields_of};
 ghost use Rattle.bench_cmd.specs.Rows.{rows_of};
 
@@ -38,9 +38,11 @@ impl Rows<'_> {
         Rows { reader }
     }
 
-    /// Reads the next row into `row`, and says whether there was one.
+    /// Reads the next row into `row`, and says whether there was one. Where memory is refused no row is left to read. No row
+    /// is refused for its length.
     pub fn read(&mut self, row: &mut ByteRecord) -> Result<bool, NoMemory>
-        ensures { IfOk result (λ found. MatchBool found (self.old ≡ fields_of row.new ∷ self.new) (self.old ≡ [])) }
+        ensures stopped { OnErr result (self.new ≡ []) }
+        ensures read { IfOk result (λ found. MatchBool found (self.old ≡ fields_of row.new ∷ self.new) (self.old ≡ [])) }
     {
         let Ok(found) = self.reader.read_byte_record(row) else {
             // A slice doesn't fail and rows may have any length, so what is left is memory.

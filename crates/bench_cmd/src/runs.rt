@@ -5,8 +5,8 @@ ghost use Rattle.bench_cmd.specs.Answers.{Answers, Completes, Written, outcome};
 ghost use Rattle.bench_cmd.specs.Commands.{IsFitting, command_of};
 ghost use Rattle.bench_cmd.specs.Faults.{Fault};
 ghost use Rattle.bench_cmd.specs.Outcomes.{IsOutcome};
+ghost use Rattle.bench_cmd.specs.Transfers.{largest_input};
 ghost use Rattle.bench_cmd.specs.declared.command.Command.{Command};
-ghost use Rattle.bench_cmd.specs.declared.input.TheConstants.{LARGEST_INPUT};
 ghost use Rattle.ld_base.specs.Faults.{Rose};
 
 use crate::command::Command;
@@ -28,26 +28,19 @@ pub fn run<S: Source, K: Sink>(
     ensures usage { (result ≡ Status.Usage) ↔ (command_of (map (λ word. word.items) words.now) ≡ None) }
     ensures untouched { result ≡ Status.Usage → (source.new ≡ source.old) × (sink.new ≡ sink.old) }
     ensures answer { (command : Command) → command_of (map (λ word. word.items) words.now) ≡ Some command
-        → Answers (outcome command)
-        (record { bytes = S.bytes_left source.old; faults = S.faults source.old })
-        (record { bytes = S.bytes_left source.new; faults = S.faults source.new })
-        (record { bytes = K.bytes_written sink.old; faults = K.faults sink.old })
-        (record { bytes = K.bytes_written sink.new; faults = K.faults sink.new })
-        result }
+        → Answers (outcome command) (S.end source.old) (S.end source.new) (K.end sink.old) (K.end sink.new) result }
 
     // Where neither end fails, an input that is small enough gets its whole answer, and a larger one is too large.
     ensures complete { (command : Command) (input : List ℕ)
         → command_of (map (λ word. word.items) words.now) ≡ Some command
-        → S.bytes_left source.old ≡ Some input → length input ≤ LARGEST_INPUT
-        → ¬ Rose (S.faults source.old) (S.faults source.new) → ¬ Rose (K.faults sink.old) (K.faults sink.new)
-        → Completes (outcome command input)
-        (record { bytes = K.bytes_written sink.old; faults = K.faults sink.old })
-        (record { bytes = K.bytes_written sink.new; faults = K.faults sink.new })
-        result }
+        → (S.end source.old).bytes ≡ Some input → length input ≤ largest_input
+        → ¬ Rose (S.end source.old).faults (S.end source.new).faults
+        → ¬ Rose (K.end sink.old).faults (K.end sink.new).faults
+        → Completes (outcome command input) (K.end sink.old) (K.end sink.new) result }
     ensures too_large { (command : Command) (input : List ℕ)
         → command_of (map (λ word. word.items) words.now) ≡ Some command
-        → S.bytes_left source.old ≡ Some input → LARGEST_INPUT < length input
-        → ¬ Rose (S.faults source.old) (S.faults source.new)
+        → (S.end source.old).bytes ≡ Some input → largest_input < length input
+        → ¬ Rose (S.end source.old).faults (S.end source.new).faults
         → (result ≡ Status.TooLarge) ⊎ (result ≡ Status.NoMemory) }
 {
     let Some(command) = Command::of(words) else {
@@ -78,10 +71,7 @@ fn outcome_of(alloc: Global, command: Command, input: &[u8]) -> Result<Outcome, 
 // Writes the outcome, and says how that went.
 fn finish<K: Sink>(alloc: Global, outcome: &Outcome, sink: &mut K) -> Status
     ensures { (made : Result (List ℕ) Fault) → IsOutcome outcome.now made
-        → Written made
-        (record { bytes = K.bytes_written sink.old; faults = K.faults sink.old })
-        (record { bytes = K.bytes_written sink.new; faults = K.faults sink.new })
-        result }
+        → Written made (K.end sink.old) (K.end sink.new) result }
 {
     match outcome {
         Outcome::Text(text) => match write_text(sink, text) {
@@ -94,10 +84,7 @@ fn finish<K: Sink>(alloc: Global, outcome: &Outcome, sink: &mut K) -> Status
 
 // Writes the line of a bad row. The answer stays the same where the line can't be written whole.
 fn finish_bad<K: Sink>(alloc: Global, row: u64, reason: Reason, sink: &mut K) -> Status
-    ensures { Written (Err (record { row = row; reason = reason }))
-        (record { bytes = K.bytes_written sink.old; faults = K.faults sink.old })
-        (record { bytes = K.bytes_written sink.new; faults = K.faults sink.new })
-        result }
+    ensures { Written (Err (record { row = row; reason = reason })) (K.end sink.old) (K.end sink.new) result }
 {
     let Ok(line) = bad_line(alloc, row, reason) else {
         return Status::NoMemory;

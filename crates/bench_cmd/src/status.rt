@@ -1,7 +1,10 @@
-ghost use Rattle.std.specs.Prelude.{◌≡◌};
-ghost use Rattle.bench_cmd.specs.Codes.{code_of};
+//! How a run ended, and what the program makes of it.
+
+ghost use Rattle.std.specs.Prelude.{◌≡◌, option_copied};
+ghost use Rattle.bench_cmd.specs.Statuses.{after_flush, code_of, complaint_of, without_arguments};
 
 use ld_base::Reason;
+use std::io::ErrorKind;
 
 /// How a run ended.
 #[derive(Clone, Copy, Debug, PartialEq, Eq)]
@@ -35,6 +38,42 @@ impl Status {
             Status::WriteFault => 5,
             Status::NoMemory => 6,
             Status::TooLarge => 7,
+        }
+    }
+
+    /// The line for standard error, without its line feed. None where the whole text was written.
+    pub fn complaint(&self) -> Option<&'static str>
+        ensures { option_copied result ≡ complaint_of self.now }
+    {
+        match self {
+            Status::Done => None,
+            Status::Usage => Some("usage: linediff judge COUNT"),
+            Status::BadInput { .. } => Some("bad input"),
+            Status::ReadFault => Some("read fault"),
+            Status::WriteFault => Some("write fault"),
+            Status::NoMemory => Some("no memory"),
+            Status::TooLarge => Some("input too large"),
+        }
+    }
+
+    /// The status once standard output was flushed, or could not be. A text that can't be flushed is not written.
+    pub fn after_flush(self, flushed: bool) -> Status
+        ensures { result ≡ after_flush self flushed }
+    {
+        match self {
+            Status::Done if !flushed => Status::WriteFault,
+            status => status,
+        }
+    }
+
+    /// The status where the program's arguments can't be had, for this error: want of memory, or an argument that is no
+    /// text and so belongs to no command.
+    pub fn without_arguments(error: ErrorKind) -> Status
+        ensures { result ≡ without_arguments error }
+    {
+        match error {
+            ErrorKind::OutOfMemory => Status::NoMemory,
+            _ => Status::Usage,
         }
     }
 }

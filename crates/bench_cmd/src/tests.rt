@@ -1,7 +1,8 @@
-use crate::{Status, run};
+use crate::{Status, run, words_of};
 use itoa::Buffer;
 use ld_base::{MemorySink, MemorySource, Reason};
 use std::alloc::Global;
+use std::io::{self, ErrorKind};
 use std::test::Fail;
 
 const STEP: &[u8] = b"81,0,0,0,0,0,0\n82,0,0,0,0,0,0\n83,0,0,0,0,0,0\n84,0,0,0,0,0,0\n\
@@ -138,6 +139,70 @@ fn the_first_of_two_bad_rows_is_told(rt: HostRuntime) -> Result<(), Fail> {
 }
 
 #[test]
+fn the_largest_values_of_every_field_are_judged(rt: HostRuntime) -> Result<(), Fail> {
+    let runs: [(&[u8], &[u8]); 9] = [
+        (b"0,32767,32767,32767,32767,32767,32767\n", b"0,WWW\n"),
+        (
+            b"999999,-32768,-32768,-32768,-32768,-32768,-32768\n",
+            b"999999,WWW\n",
+        ),
+        (
+            b"1000000,32767,-32768,32767,-32768,32767,-32768\n",
+            b"1000000,WWW\n",
+        ),
+        (
+            b"4294967294,0,0,0,0,0,0\n4294967295,0,0,0,0,0,0\n",
+            b"4294967294,WWW\n4294967295,WWW\n",
+        ),
+        (
+            b"000000000000000007,-000000000000000001,0,0,0,0,0\n",
+            b"7,WWW\n",
+        ),
+        (b"999999999999999999,0,0,0,0,0,0\n", b"bad,1,4\n"),
+        (b"0,0,0,0,0,0,-999999999999999999\n", b"bad,1,4\n"),
+        (b"1000000000000000000,0,0,0,0,0,0\n", b"bad,1,3\n"),
+        (
+            b"4294967295,0,0,0,0,0,0\n4294967295,0,0,0,0,0,0\n",
+            b"bad,2,8\n",
+        ),
+    ];
+    for (input, text) in runs {
+        let told = judged(rt.alloc(), &[b"judge", b"32"], input, (&[], &[]), 64)?;
+        assert_eq!(rt; told.written.as_slice(), text, "at {input:?}");
+    }
+    Ok(())
+}
+
+#[test]
+fn rows_and_fields_of_any_length_are_read(rt: HostRuntime) -> Result<(), Fail> {
+    let alloc = rt.alloc();
+    for count in [8usize, 100, 101, 128, 1000, 70_000] {
+        // A second row of so many fields, and one whose last field has four times so many bytes.
+        let mut input = Vec::from_slice(alloc, b"1,0,0,0,0,0,0\n2")?;
+        for _ in 1..count {
+            input.extend_from_slice(b",0")?;
+        }
+        let told = judged(alloc, &[b"judge", b"4"], &input, (&[], &[]), 64)?;
+        assert_eq!(rt;
+            told.written.as_slice(),
+            b"bad,2,2\n".as_slice(),
+            "at {count}"
+        );
+        let mut input = Vec::from_slice(alloc, b"1,0,0,0,0,0,0\n2,0,0,0,0,0,")?;
+        for _ in 0..count {
+            input.extend_from_slice(b"1000")?;
+        }
+        let told = judged(alloc, &[b"judge", b"4"], &input, (&[], &[]), 64)?;
+        assert_eq!(rt;
+            told.written.as_slice(),
+            b"bad,2,3\n".as_slice(),
+            "at {count}"
+        );
+    }
+    Ok(())
+}
+
+#[test]
 fn each_failing_call_has_its_answer(rt: HostRuntime) -> Result<(), Fail> {
     let alloc = rt.alloc();
     let words: &[&[u8]] = &[b"judge", b"2"];
@@ -197,5 +262,32 @@ fn a_text_is_written_in_pieces(rt: HostRuntime) -> Result<(), Fail> {
     assert_eq!(rt; front.status, Status::WriteFault);
     assert_eq!(rt; front.written.len(), 4096);
     assert!(rt; whole.written.starts_with(&front.written));
+    Ok(())
+}
+
+#[test]
+fn the_words_are_the_arguments_behind_the_first(rt: HostRuntime) -> Result<(), Fail> {
+    let alloc = rt.alloc();
+    let mut arguments = Vec::new(alloc);
+    for argument in ["linediff", "", "JUDGE", "4 ", "4"] {
+        arguments.push(argument.to_string(alloc)?)?;
+    }
+    let words = words_of(alloc, Ok(arguments.into_iter())).or(Err("no words"))?;
+    let wants: [&[u8]; 4] = [b"", b"JUDGE", b"4 ", b"4"];
+    assert_eq!(rt; words.len(), 4);
+    for (word, want) in words.iter().zip(wants) {
+        assert_eq!(rt; word.as_slice(), want);
+    }
+    let none = words_of(alloc, Ok(Vec::new(alloc).into_iter())).or(Err("no words"))?;
+    assert!(rt; none.is_empty());
+    for (kind, status) in [
+        (ErrorKind::InvalidData, Status::Usage),
+        (ErrorKind::OutOfMemory, Status::NoMemory),
+    ] {
+        assert_eq!(rt;
+            words_of(alloc, Err(io::Error::from(kind))).err(),
+            Some(status)
+        );
+    }
     Ok(())
 }

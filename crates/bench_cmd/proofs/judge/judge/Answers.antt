@@ -6,12 +6,12 @@ use Rattle.bench_cmd.proofs.judge.judge.Goals as goal
 
 pub overflow_add-at : goal.overflow_add-at
 overflow_add-at c =
-    let taken = rw c.if-branch.true at c.in_ok-read.ensures in
+    let taken = rw c.if-branch.true at c.in_ok-read.ensures.read in
     omega (arith, length-rows_of c.args.input.now, rw taken at c.judging.invariant.1)
 
 pub judging-preserved : goal.judging-preserved
 judging-preserved c =
-    let taken = rw c.if-branch.true at c.in_ok-read.ensures in
+    let taken = rw c.if-branch.true at c.in_ok-read.ensures.read in
     let before = rw taken at c.judging.invariant.0 in
     let trip = c.judge-verdicts.ensures in
     let sets = map set_of before.done in

@@ -5,8 +5,7 @@ use Rattle.bench_cmd.proofs.output.write_text.Given as goal
 -- what the sink took so far is the front of the text, and what is left is its rest
 abbrev pub invariant-writing : goal.invariant-writing
 invariant-writing g l = (front : List ℕ) × (l.fn.text ≡ front ++ l.rest)
-    × Took (record { bytes = g.K.Sink.bytes_written l.initial.sink; faults = g.K.Sink.faults l.initial.sink })
-    (record { bytes = g.K.Sink.bytes_written l.sink; faults = g.K.Sink.faults l.sink }) front
+    × Took (g.K.Sink.end l.initial.sink) (g.K.Sink.end l.sink) front
 
 abbrev pub decreases-writing : goal.decreases-writing
 decreases-writing g l = length l.rest
