@@ -1,7 +1,7 @@
 -- Judge: the rows of `judge`, their faults, and the text of their verdicts.
-use Rattle.std.specs.Prelude.{ℕ, suc, ◌+◌, Bool, ◌&&◌, not, nat_lt, ◌==◌, if◌then◌else◌, ℤ, pos, negsuc, unsigned_abs, List, [], ◌∷◌, ◌++◌, map, flat_map, drop, length, Option, Some, None, unwrap_or, Result, slice_index_or, decimal, codes}
+use Rattle.std.specs.Prelude.{ℕ, suc, ◌+◌, Bool, ◌&&◌, not, nat_lt, int_le, ◌==◌, if◌then◌else◌, ℤ, pos, negsuc, unsigned_abs, List, [], ◌∷◌, ◌++◌, map, flat_map, drop, length, Option, Some, None, unwrap_or, Result, slice_index_or, decimal, codes}
 use Rattle.std.specs.List.{list_all}
-use Rattle.ld_base.specs.Settings.{usual, within_signed}
+use Rattle.ld_base.specs.Settings.{usual}
 use Rattle.ld_base.specs.declared.fields.Fields.{Fields}
 use Rattle.ld_base.specs.declared.phases.Phases.{Phases}
 use Rattle.ld_base.specs.declared.phases.SampleSet.{SampleSet}
@@ -29,6 +29,10 @@ numbers_of (field ∷ fields) = both (number field) (numbers_of fields)
 -- the number at a place of a row
 abbrev pub number_at : List ℤ → ℕ → ℤ
 number_at numbers place = slice_index_or numbers place (pos 0)
+
+-- a signed number from low to high
+abbrev pub within_signed : ℤ → ℤ → ℤ → Bool
+within_signed low high number = int_le low number && int_le number high
 
 -- a value of 16 bits
 abbrev pub is_value : ℤ → Bool

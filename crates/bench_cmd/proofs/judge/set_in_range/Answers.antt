@@ -1,6 +1,5 @@
 use Rattle.std.proofs.Common.{◌≡◌, true, rules, arith, pos}
-use Rattle.ld_base.specs.Settings.{within_signed}
-use Rattle.bench_cmd.specs.Judge.{number_at}
+use Rattle.bench_cmd.specs.Judge.{number_at, within_signed}
 use Rattle.bench_cmd.proofs.RowNumbers.{is_in_range-seven}
 use Rattle.bench_cmd.proofs.judge.set_in_range.Goals as goal
 
