@@ -5,7 +5,7 @@ use Rattle.std.specs.Io.KnownBytes.{Consumes, IsAtEnd}
 use Rattle.ld_base.specs.Ends.{End}
 use Rattle.ld_base.specs.Faults.{Rose}
 use Rattle.bench_cmd.specs.Answers.{Answers, Completes, Written}
-use Rattle.bench_cmd.specs.Faults.{Fault}
+use Rattle.row_reader.specs.declared.fault.Fault.{Fault}
 use Rattle.bench_cmd.specs.Transfers.{GaveAll, Took, largest_input}
 use Rattle.bench_cmd.specs.declared.status.Status.{Status}
 use Rattle.bench_cmd.specs.declared.status.Status.TheVariants as status

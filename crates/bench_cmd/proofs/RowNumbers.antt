@@ -2,9 +2,9 @@
 use Rattle.std.proofs.Common.{◌≡◌, refl, arith, ℕ, zero, suc, ◌<◌, Bool, true, ◌&&◌, ℤ, pos, List, [], ◌∷◌, length, get_or, Option, Some, None}
 use Rattle.std.specs.Prelude.{option_and_then}
 use Rattle.csv.specs.Records.{field_at}
-use Rattle.bench_cmd.specs.Numbers.{number}
+use Rattle.row_reader.specs.Numbers.{number}
 use Rattle.bench_cmd.specs.Judge.{are_values_at, both, is_in_range, number_at, numbers_of, within_signed}
-use Rattle.bench_cmd.specs.Rows.{Row}
+use Rattle.row_reader.specs.Rows.{Row}
 
 -- the tests of six values, three at a time
 by_threes : (a b c d e f : Bool) → a && (b && (c && (d && (e && (f && true))))) ≡ a && b && c && (d && e && f)

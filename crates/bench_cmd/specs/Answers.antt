@@ -2,8 +2,9 @@
 use Rattle.std.specs.Prelude.{◌≡◌, ◌⊎◌, ℕ, List, Result, Ok, Err}
 use Rattle.ld_base.specs.Ends.{End}
 use Rattle.bench_cmd.specs.Judge.{judge_rows}
-use Rattle.bench_cmd.specs.Faults.{Fault, bad_line}
-use Rattle.bench_cmd.specs.Rows.{rows_of}
+use Rattle.bench_cmd.specs.Faults.{bad_line}
+use Rattle.row_reader.specs.declared.fault.Fault.{Fault}
+use Rattle.row_reader.specs.Rows.{rows_of}
 use Rattle.bench_cmd.specs.Transfers.{GaveAll, GaveSome, GaveTooMuch, GaveUp, Took, TookFront, Untouched}
 use Rattle.bench_cmd.specs.declared.command.Command.{Command}
 use Rattle.bench_cmd.specs.declared.command.Command.TheVariants.{Judge}

@@ -1,6 +1,6 @@
 -- The command line.
 use Rattle.std.specs.Prelude.{ℕ, ◌≤◌, ◌&&◌, nat_le, if◌then◌else◌, List, [], ◌∷◌, Option, Some, None, bytes_eq, codes}
-use Rattle.bench_cmd.specs.Numbers.{word_number}
+use Rattle.row_reader.specs.Numbers.{word_number}
 use Rattle.bench_cmd.specs.declared.command.Command.{Command}
 use Rattle.bench_cmd.specs.declared.command.Command.TheVariants.{Judge}
 

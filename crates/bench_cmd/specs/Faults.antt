@@ -1,18 +1,8 @@
--- What is wrong with an input, and the line that tells it.
-use Rattle.std.specs.Prelude.{ℕ, ◌+◌, ◌++◌, List, [], ◌∷◌, Option, Some, None, Result, Ok, Err, codes, decimal}
+-- The line that tells of what is wrong with an input.
+use Rattle.std.specs.Prelude.{ℕ, ◌++◌, List, Option, Some, None, Result, Ok, Err, codes, decimal}
 use Rattle.ld_base.specs.declared.reason.Reason.{Reason}
 use Rattle.ld_base.specs.declared.reason.Reason.TheVariants as reason
-
--- what is wrong with an input: a row, counted from 1, and the least rule that it breaks
-pub record Fault : Type 0 where
-  pub row : ℕ
-  pub reason : Reason
-
--- the first row with a fault, where `row` is the number of the first of these
-abbrev pub first_fault : ℕ → List (Option Reason) → Option Fault
-first_fault row [] = None
-first_fault row (None ∷ rest) = first_fault (row + 1) rest
-first_fault row (Some reason ∷ rest) = Some (record { row = row; reason = reason })
+use Rattle.row_reader.specs.declared.fault.Fault.{Fault}
 
 -- the text to write, unless there is a fault
 abbrev pub unless : Option Fault → List ℕ → Result (List ℕ) Fault

@@ -11,9 +11,11 @@ use Rattle.phasor.specs.Sum.{no_current}
 use Rattle.trip_logic.specs.TripAt.{verdicts}
 use Rattle.trip_logic.specs.declared.verdict.Verdict.{Verdict}
 use Rattle.trip_logic.specs.declared.verdict.Verdict.TheVariants.{Waiting, Restrain, Outside, Trip}
-use Rattle.bench_cmd.specs.Numbers.{number}
-use Rattle.bench_cmd.specs.Faults.{Fault, first_fault, unless}
-use Rattle.bench_cmd.specs.Rows.{Row}
+use Rattle.row_reader.specs.Numbers.{number}
+use Rattle.bench_cmd.specs.Faults.{unless}
+use Rattle.row_reader.specs.Faults.{first_fault}
+use Rattle.row_reader.specs.declared.fault.Fault.{Fault}
+use Rattle.row_reader.specs.Rows.{Row}
 
 -- a number in front of others, where all are there
 abbrev pub both : Option ℤ → Option (List ℤ) → Option (List ℤ)

@@ -3,8 +3,6 @@ pub mod Commands
 pub mod Ends
 pub mod Faults
 pub mod Judge
-pub mod Numbers
 pub mod Outcomes
-pub mod Rows
 pub mod Statuses
 pub mod Transfers

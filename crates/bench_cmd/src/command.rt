@@ -3,7 +3,7 @@
 ghost use Rattle.std.specs.Prelude.{◌≡◌, Some, IfSome, map};
 ghost use Rattle.bench_cmd.specs.Commands.{IsFitting, command_of, judge_of};
 
-use crate::number::word_number;
+use row_reader::word_number;
 
 /// What linediff is asked to do.
 #[derive(Clone, Copy, Debug, PartialEq, Eq)]

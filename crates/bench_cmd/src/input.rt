@@ -10,7 +10,7 @@ use std::alloc::Global;
 const LARGEST_INPUT: usize = 16_777_216;
 
 /// Bytes that one call reads at most.
-const CHUNK: usize = 16_384;
+const CHUNK: usize = 2048;
 
 /// Why an input was not read to its end.
 #[derive(Clone, Copy, Debug, PartialEq, Eq)]

@@ -3,20 +3,22 @@
 ghost use Rattle.std.specs.Prelude.{◌≡◌, ◌≤◌, ◌++◌, ◌∷◌, [], None, Some, true, false, length, IfOk, MatchOption, MatchResult, OnOk};
 ghost use Rattle.csv.specs.Records.{fields_of};
 ghost use Rattle.bench_cmd.specs.Judge.{are_values_at, is_in_range, judge_rows, judge_settings, letter, line_of, numbers_of, phases_at, row_fault, set_of, set_of_numbers};
-ghost use Rattle.bench_cmd.specs.Rows.{rows_of};
+ghost use Rattle.row_reader.specs.Rows.{rows_of};
 ghost use Rattle.bench_cmd.specs.Outcomes.{IsOutcome};
 
-use crate::number::number;
 use crate::output::Outcome;
-use crate::rows::Rows;
 use csv::ByteRecord;
-use itoa::Buffer;
+use itoa::write_digits;
 use ld_base::{Fields, NoMemory, Phases, Reason, SampleSet, Settings};
+use row_reader::{Fault, Rows, number};
 use std::alloc::Global;
 use trip_logic::{Trip, Verdict};
 
 /// The fields of a row: the number of the set, and three phases of each terminal.
 const FIELDS: usize = 7;
+
+/// The most digits of the number of a set.
+const MOST_DIGITS: usize = 10;
 
 /// The verdicts of the input's rows as text, or the first row with a fault.
 pub(crate) fn judge(alloc: Global, count: u8, input: &[u8]) -> Result<Outcome, NoMemory>
@@ -38,7 +40,7 @@ pub(crate) fn judge(alloc: Global, count: u8, input: &[u8]) -> Result<Outcome, N
                 write_line(&mut text, set.number, &verdicts)?;
                 next = u64::from(set.number) + 1;
             }
-            Err(reason) => return Ok(Outcome::Bad { row: at, reason }),
+            Err(reason) => return Ok(Outcome::Bad(Fault { row: at, reason })),
         }
     }
     Ok(Outcome::Text(text))
@@ -119,19 +121,29 @@ fn phases_at(numbers: &[i64; FIELDS], place: usize) -> Option<Phases>
     })
 }
 
-// Appends the line of a set.
+// Appends the line of a set, which is made at its place in front of what follows the number.
 fn write_line(text: &mut Vec<u8>, number: u32, verdicts: &[Verdict; 3]) -> Result<(), NoMemory>
     ensures { OnOk result (text.new.items ≡ text.old.items ++ line_of number verdicts.now) }
 {
-    let line = [
+    let mut line = [
+        0,
+        0,
+        0,
+        0,
+        0,
+        0,
+        0,
+        0,
+        0,
+        0,
         b',',
         letter(verdicts[0]),
         letter(verdicts[1]),
         letter(verdicts[2]),
         b'\n',
     ];
-    text.extend_from_slice(Buffer::new().format(number).as_bytes())?;
-    text.extend_from_slice(&line)?;
+    let start = write_digits(u64::from(number), &mut line, MOST_DIGITS);
+    text.extend_from_slice(&line[start..])?;
     Ok(())
 }
 

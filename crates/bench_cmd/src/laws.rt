@@ -2,7 +2,7 @@
 
 ghost use Rattle.std.specs.Prelude.{ℕ, List, Option, Result};
 ghost use Rattle.bench_cmd.specs.Answers.{Answers};
-ghost use Rattle.bench_cmd.specs.Faults.{Fault};
+ghost use Rattle.row_reader.specs.declared.fault.Fault.{Fault};
 ghost use Rattle.ld_base.specs.Ends.{End};
 ghost use Rattle.bench_cmd.specs.declared.status.Status.TheVariants.{ReadFault};
 

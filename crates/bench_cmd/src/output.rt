@@ -5,7 +5,8 @@ ghost use Rattle.bench_cmd.specs.Faults.{bad_line};
 ghost use Rattle.bench_cmd.specs.Transfers.{Took, TookFront};
 
 use itoa::Buffer;
-use ld_base::{Failed, NoMemory, Reason, Sink};
+use ld_base::{Failed, NoMemory, Sink};
+use row_reader::Fault;
 use std::alloc::Global;
 
 /// Bytes that one call writes at most.
@@ -16,8 +17,8 @@ const PIECE: usize = 4096;
 pub enum Outcome {
     /// The text to write.
     Text(Vec<u8>),
-    /// A row of the input breaks a rule.
-    Bad { row: u64, reason: Reason },
+    /// What is wrong with the input.
+    Bad(Fault),
 }
 
 /// Writes the whole text, in pieces, up to the first call that fails.
@@ -33,14 +34,14 @@ pub(crate) fn write_text<K: Sink>(sink: &mut K, text: &[u8]) -> Result<(), Faile
     Ok(())
 }
 
-/// The line that tells of a bad row.
-pub(crate) fn bad_line(alloc: Global, row: u64, reason: Reason) -> Result<Vec<u8>, NoMemory>
-    ensures { IfOk result (λ line. line.items ≡ bad_line (record { row = row; reason = reason })) }
+/// The line that tells what is wrong with an input.
+pub(crate) fn bad_line(alloc: Global, fault: Fault) -> Result<Vec<u8>, NoMemory>
+    ensures { IfOk result (λ line. line.items ≡ bad_line fault) }
 {
     let mut line = Vec::from_slice(alloc, b"bad,")?;
-    line.extend_from_slice(Buffer::new().format(row).as_bytes())?;
+    line.extend_from_slice(Buffer::new().format(fault.row).as_bytes())?;
     line.extend_from_slice(b",")?;
-    line.extend_from_slice(Buffer::new().format(reason as u8).as_bytes())?;
+    line.extend_from_slice(Buffer::new().format(fault.reason as u8).as_bytes())?;
     line.extend_from_slice(b"\n")?;
     Ok(line)
 }

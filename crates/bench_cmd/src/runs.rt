@@ -3,7 +3,7 @@
 ghost use Rattle.std.specs.Prelude.{◌≡◌, ◌↔◌, ◌⊎◌, ◌<◌, ◌≤◌, ℕ, List, length, None, Some, Result, Err, IfOk, map};
 ghost use Rattle.bench_cmd.specs.Answers.{Answers, Completes, Written, outcome};
 ghost use Rattle.bench_cmd.specs.Commands.{IsFitting, command_of};
-ghost use Rattle.bench_cmd.specs.Faults.{Fault};
+ghost use Rattle.row_reader.specs.declared.fault.Fault.{Fault};
 ghost use Rattle.bench_cmd.specs.Outcomes.{IsOutcome};
 ghost use Rattle.bench_cmd.specs.Transfers.{largest_input};
 ghost use Rattle.bench_cmd.specs.declared.command.Command.{Command};
@@ -14,7 +14,8 @@ use crate::input::{Unread, read_input};
 use crate::judge::judge;
 use crate::output::{Outcome, bad_line, write_text};
 use crate::status::Status;
-use ld_base::{NoMemory, Reason, Sink, Source};
+use ld_base::{NoMemory, Sink, Source};
+use row_reader::Fault;
 use std::alloc::Global;
 
 /// Runs the command of these words, without the program's name, over an input and an output. The input is read to its end
@@ -78,17 +79,20 @@ fn finish<K: Sink>(alloc: Global, outcome: &Outcome, sink: &mut K) -> Status
             Ok(()) => Status::Done,
             Err(_) => Status::WriteFault,
         },
-        Outcome::Bad { row, reason } => finish_bad(alloc, *row, *reason, sink),
+        Outcome::Bad(fault) => finish_bad(alloc, *fault, sink),
     }
 }
 
 // Writes the line of a bad row. The answer stays the same where the line can't be written whole.
-fn finish_bad<K: Sink>(alloc: Global, row: u64, reason: Reason, sink: &mut K) -> Status
-    ensures { Written (Err (record { row = row; reason = reason })) (K.end sink.old) (K.end sink.new) result }
+fn finish_bad<K: Sink>(alloc: Global, fault: Fault, sink: &mut K) -> Status
+    ensures { Written (Err fault) (K.end sink.old) (K.end sink.new) result }
 {
-    let Ok(line) = bad_line(alloc, row, reason) else {
+    let Ok(line) = bad_line(alloc, fault) else {
         return Status::NoMemory;
     };
     let _ = write_text(sink, &line);
-    Status::BadInput { row, reason }
+    Status::BadInput {
+        row: fault.row,
+        reason: fault.reason,
+    }
 }

@@ -1,13 +1,12 @@
 use Rattle.std.proofs.Common.{◌∙◌, ap, ◌++◌, map, arith}
 use Rattle.bench_cmd.specs.Judge.{line_of, set_of}
 use Rattle.bench_cmd.proofs.Judging.{Judged-more}
-use Rattle.bench_cmd.proofs.RowFacts.{length-rows_of}
 use Rattle.bench_cmd.proofs.judge.judge.Goals as goal
 
 pub overflow_add-at : goal.overflow_add-at
 overflow_add-at c =
     let taken = rw c.if-branch.true at c.in_ok-read.ensures.read in
-    omega (arith, length-rows_of c.args.input.now, rw taken at c.judging.invariant.1)
+    omega (arith, rw c.new-rows.ensures.all at c.new-rows.ensures.few, rw taken at c.judging.invariant.1)
 
 pub judging-preserved : goal.judging-preserved
 judging-preserved c =

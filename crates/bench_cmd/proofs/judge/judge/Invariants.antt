@@ -1,6 +1,6 @@
 use Rattle.std.proofs.Common.{◌≡◌, ◌+◌, length}
 use Rattle.bench_cmd.proofs.Judging.{Judged}
-use Rattle.bench_cmd.specs.Rows.{rows_of}
+use Rattle.row_reader.specs.Rows.{rows_of}
 use Rattle.bench_cmd.proofs.judge.judge.Given as goal
 
 -- the rows so far are judged, and they and the rest are all

@@ -2,7 +2,7 @@ use Rattle.std.proofs.Common.{rules, arith, ◌≡◌, ◌≢◌, Some, ◌<◌,
 use Rattle.std.specs.Prelude.{option_and_then}
 use Rattle.std.proofs.lemmas.Int.{to_z-of_z}
 use Rattle.csv.specs.Records.{field_at, fields_of}
-use Rattle.bench_cmd.specs.Numbers.{number}
+use Rattle.row_reader.specs.Numbers.{number}
 use Rattle.bench_cmd.proofs.RowNumbers.{numbers_of-none, numbers_of-some}
 use Rattle.bench_cmd.proofs.judge.numbers_of.Goals as goal
 

@@ -1,7 +1,7 @@
 use Rattle.std.proofs.Common.{◌≡◌, Some, ℕ, ◌<◌, pos, length, get_or}
 use Rattle.std.specs.Prelude.{option_and_then}
 use Rattle.csv.specs.Records.{field_at, fields_of}
-use Rattle.bench_cmd.specs.Numbers.{number}
+use Rattle.row_reader.specs.Numbers.{number}
 use Rattle.bench_cmd.proofs.judge.numbers_of.Given as goal
 
 -- the fields so far are these numbers

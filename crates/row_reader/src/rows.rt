@@ -1,15 +1,16 @@
 //! The rows of an input, one at a time.
 
-ghost use Rattle.std.specs.Prelude.{◌≡◌, [], ◌∷◌, IfOk, MatchBool, OnErr};
+ghost use Rattle.std.specs.Prelude.{◌≡◌, ◌≤◌, [], ◌∷◌, length, IfOk, MatchBool, OnErr};
 ghost use Rattle.csv.specs.Records.{fields_of};
-ghost use Rattle.bench_cmd.specs.Rows.{rows_of};
+ghost use Rattle.row_reader.specs.Rows.{rows_of};
 
 use csv::{ByteRecord, Reader, ReaderBuilder};
 use ld_base::NoMemory;
 use std::alloc::Global;
 use std::marker::Model;
 
-/// The rows of a text that are left to read.
+/// The rows of a text that are left to read: its records by RFC 4180, after a byte order mark. A row may have any count of
+/// fields, and a field any bytes.
 #[derive(Drop)]
 pub struct Rows<'a> {
     reader: Reader<&'a [u8]>,
@@ -17,7 +18,7 @@ pub struct Rows<'a> {
 
 impl<'a> Model for Rows<'a> {
     ghost use Rattle.std.specs.Prelude.{ℕ, List};
-    ghost use Rattle.bench_cmd.specs.Rows.{rows_left, ReadsRows};
+    ghost use Rattle.row_reader.specs.Rows.{rows_left, ReadsRows};
 
     ghost Value = { List (List (List ℕ)) };
 
@@ -29,7 +30,8 @@ impl<'a> Model for Rows<'a> {
 impl Rows<'_> {
     /// All rows of the text.
     pub fn new(alloc: Global, text: &[u8]) -> Rows<'_>
-        ensures { result ≡ rows_of text.now }
+        ensures all { result ≡ rows_of text.now }
+        ensures few { length result ≤ length text.now }
     {
         let reader = ReaderBuilder::new()
             .has_headers(false)

@@ -1,7 +1,7 @@
 //! Numbers in texts.
 
 ghost use Rattle.std.specs.Prelude.{◌≡◌};
-ghost use Rattle.bench_cmd.specs.Numbers.{digits, number, word_number};
+ghost use Rattle.row_reader.specs.Numbers.{digits, number, word_number};
 
 /// The most digits that a number has.
 const MOST_DIGITS: usize = 18;
@@ -24,9 +24,9 @@ fn digits(text: &[u8]) -> Option<u64>
     Some(value)
 }
 
-/// The number in a row's field: an optional minus and then 1 to 18 digits.
+/// The number in a row's field: an optional minus and then 1 to 18 decimal digits. None where the text is anything else.
 #[tactic(auto, using(crate::proofs::Digits::digits_below, crate::proofs::Digits::number_minus))]
-pub(crate) fn number(text: &[u8]) -> Option<i64>
+pub fn number(text: &[u8]) -> Option<i64>
     ensures { result ≡ number text.now }
 {
     match text {
@@ -35,8 +35,9 @@ pub(crate) fn number(text: &[u8]) -> Option<i64>
     }
 }
 
-/// The number in a command word: digits without a leading zero, 0 itself aside.
-pub(crate) fn word_number(word: &[u8]) -> Option<u64>
+/// The number in a command word: 1 to 18 decimal digits without a leading zero, 0 itself aside. None where the word is
+/// anything else.
+pub fn word_number(word: &[u8]) -> Option<u64>
     ensures { result ≡ word_number word.now }
 {
     if word.len() > 1 && word[0] == b'0' {

@@ -11,7 +11,7 @@ use Rattle.csv.specs.declared.parser.State.TheVariants as st
 use Rattle.csv.specs.declared.parser.Action.{Action}
 use Rattle.csv.specs.declared.parser.Terminator.{Terminator}
 use Rattle.csv.specs.declared.reader.Trim.TheVariants as trim
-use Rattle.bench_cmd.specs.Rows.{Row, ReadsRows, TextReader, bytes_left, rows_from, rows_left, rows_of}
+use Rattle.row_reader.specs.Rows.{Row, ReadsRows, TextReader, bytes_left, rows_from, rows_left, rows_of}
 
 -- the state after a terminator is outside a record
 outside-after_end : (t : Terminator) (c : ℕ) → ends_at_end (after_end t c) ≡ false
@@ -163,6 +163,3 @@ length-strip_bom (a ∷ b ∷ c ∷ rest) = by (is_bom a b c)
 -- a text has no more rows than bytes
 pub length-rows_of : (text : List ℕ) → length (rows_of text) ≤ length text
 length-rows_of text = omega (arith, length-records_from default_config (length (strip_bom text) + 1) st.StartRecord (strip_bom text) refl, length-strip_bom text)
-
--- what a caller that counts rows needs, under a name that an attribute takes
-pub ruleset row_counts = (length-rows_of)

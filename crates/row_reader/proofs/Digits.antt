@@ -9,7 +9,7 @@ use Rattle.std.proofs.lemmas.Str.Parse.{IsNumeralModel, digits_value_short, nume
 use Rattle.std.specs.Char.{is_ascii_digit}
 use Rattle.std.specs.Str.{all_ascii_digits}
 use Rattle.std.specs.Str.Parse.{AllDigits, digits_value}
-use Rattle.bench_cmd.specs.Numbers.{digits, number}
+use Rattle.row_reader.specs.Numbers.{digits, number}
 
 -- digits, as `all_ascii_digits` tells them
 told : IsNumeralModel (λ ds. all_ascii_digits ds ≡ true) (digits_value 10)

@@ -1,5 +1,5 @@
-use Rattle.bench_cmd.proofs.RowFacts.{rows_left-read}
-use Rattle.bench_cmd.proofs.rows.Rows.read.Goals as goal
+use Rattle.row_reader.proofs.RowFacts.{rows_left-read}
+use Rattle.row_reader.proofs.rows.Rows.read.Goals as goal
 
 pub returns-clause-read : goal.returns-clause-read
 returns-clause-read c =

@@ -1,6 +1,6 @@
 use Rattle.std.proofs.Common.{◌≡◌, take}
 use Rattle.std.specs.Str.Parse.{AllDigits, digits_value}
-use Rattle.bench_cmd.proofs.number.digits.Given as goal
+use Rattle.row_reader.proofs.numbers.digits.Given as goal
 
 -- the value of the digits so far
 abbrev pub invariant-loop-byte : goal.invariant-loop-byte

@@ -1,0 +1,10 @@
+-- What is wrong with an input.
+use Rattle.std.specs.Prelude.{ℕ, ◌+◌, List, [], ◌∷◌, Option, Some, None}
+use Rattle.ld_base.specs.declared.reason.Reason.{Reason}
+use Rattle.row_reader.specs.declared.fault.Fault.{Fault}
+
+-- the first row with a fault, where `row` is the number of the first of these
+abbrev pub first_fault : ℕ → List (Option Reason) → Option Fault
+first_fault row [] = None
+first_fault row (None ∷ rest) = first_fault (row + 1) rest
+first_fault row (Some reason ∷ rest) = Some (record { row = row; reason = reason })

@@ -1,0 +1,10 @@
+//! Rows and numbers of texts that commands read, and the first row with a fault.
+#![tactic(auto)]
+
+mod fault;
+mod numbers;
+mod rows;
+
+pub use fault::Fault;
+pub use numbers::{number, word_number};
+pub use rows::Rows;
