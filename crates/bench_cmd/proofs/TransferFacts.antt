@@ -60,7 +60,8 @@ GaveSome-more old mid new front piece gave more steady few =
     }
 
 -- a sink that took the front of a text takes one piece more
-pub Took-more : (old mid new : End) (front piece : List ℕ) → Took old mid front → Appends mid.bytes new.bytes piece → new.faults ≡ mid.faults → Took old new (front ++ piece)
+pub Took-more : (old mid new : End) (front piece : List ℕ) → Took old mid front → Appends mid.bytes new.bytes piece
+    → new.faults ≡ mid.faults → Took old new (front ++ piece)
 Took-more old mid new front piece took more steady =
     record { written = Appends-then old.bytes mid.bytes new.bytes front piece took.written more; steady = steady ∙ took.steady }
 

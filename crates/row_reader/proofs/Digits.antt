@@ -26,7 +26,8 @@ pub digits_other : (text : List ℕ) (i : ℕ) → i < length text → is_ascii_
 digits_other text i inside other = let e : all_ascii_digits text ≡ false = all_but text i inside other in grind (arith, nat_tests)
 
 -- a text of 1 to 18 digits that is read to its end has their value
-pub digits_all : (text : List ℕ) (i : ℕ) → 1 ≤ length text → length text ≤ 18 → length text ≤ i → AllDigits 10 (take i text) → digits text ≡ Some (digits_value 10 (take i text))
+pub digits_all : (text : List ℕ) (i : ℕ) → 1 ≤ length text → length text ≤ 18 → length text ≤ i → AllDigits 10 (take i text)
+    → digits text ≡ Some (digits_value 10 (take i text))
 digits_all text i some few ended all =
     let whole : take i text ≡ text = take_all i text ended in
     let e : all_ascii_digits text ≡ true = told.from text (rw whole at all) in
@@ -43,7 +44,8 @@ pub digits_below : (text : List ℕ) (n : ℕ) → Some n ≡ digits text → n 
 digits_below text n is = grind (arith, nat_tests, digits_value_short told text 18)
 
 -- the number after a minus, as the code computes it
-pub number_minus : (text : List ℕ) (n : ℕ) → 1 ≤ length text → get_or text 0 0 ≡ 45 → Some n ≡ digits (take (length text - 1) (drop 1 text)) → Some (to_z w64 (of_z w64 (pos 0 -ℤ to_z w64 n))) ≡ number text
+pub number_minus : (text : List ℕ) (n : ℕ) → 1 ≤ length text → get_or text 0 0 ≡ 45
+    → Some n ≡ digits (take (length text - 1) (drop 1 text)) → Some (to_z w64 (of_z w64 (pos 0 -ℤ to_z w64 n))) ≡ number text
 number_minus [] n some minus is = absurd (omega arith)
 number_minus (b ∷ rest) n some minus is =
     let whole : take (length (b ∷ rest) - 1) rest ≡ rest = take_all _ rest (omega arith) in

@@ -63,7 +63,8 @@ leaves-next_record cfg s fields field [] = by (ends_at_end s)
     by true = (omega arith, refl)
     by false = tt
 leaves-next_record cfg s fields field (c ∷ rest) =
-    by (is_end (step cfg s c).1) refl (leaves-next_record cfg (step cfg s c).0 (fields_after (step cfg s c).1 fields field) (field_after (step cfg s c).1 c field) rest)
+    by (is_end (step cfg s c).1) refl
+    (leaves-next_record cfg (step cfg s c).0 (fields_after (step cfg s c).1 fields field) (field_after (step cfg s c).1 c field) rest)
   where
     more : Option Read
     more = next_record cfg (step cfg s c).0 (fields_after (step cfg s c).1 fields field) (field_after (step cfg s c).1 c field) rest
@@ -102,7 +103,8 @@ rows_from-next_record : (s : State) (bytes : List ℕ) (o : Option Read) → nex
 unfolding records_from
 rows_from-next_record s bytes o e =
     let one : length bytes + 1 ≡ suc (length bytes) = omega arith in
-    rw (one, ← e) (records_next-same (records_from default_config (length bytes)) (λ s2 left. rows_from s2 (Some left)) (length bytes - 1) _ (leaves-next_record default_config s [] [] bytes)
+    rw (one, ← e) (records_next-same (records_from default_config (length bytes)) (λ s2 left. rows_from s2 (Some left)) (length bytes - 1) _
+    (leaves-next_record default_config s [] [] bytes)
     (λ s2 left outside less. records_from-turns default_config (length bytes) (length left + 1) s2 left outside (omega arith) (omega arith)))
 
 -- a read takes the next of the rows
@@ -143,7 +145,8 @@ length-records_from cfg n s [] e = rw (records_from-nil cfg n s e) (omega arith)
 length-records_from cfg zero s (c ∷ rest) e = omega arith
 length-records_from cfg (suc n) s (c ∷ rest) e = by (next_record cfg s [] [] (c ∷ rest)) (leaves-next_record cfg s [] [] (c ∷ rest)) (length-records_from cfg n)
   where
-    by : (o : Option Read) → IfSome o (LeavesUpTo (length (c ∷ rest) - 1)) → ((s2 : State) (left : List ℕ) → ends_at_end s2 ≡ false → length (records_from cfg n s2 left) ≤ length left)
+    by : (o : Option Read) → IfSome o (LeavesUpTo (length (c ∷ rest) - 1))
+        → ((s2 : State) (left : List ℕ) → ends_at_end s2 ≡ false → length (records_from cfg n s2 left) ≤ length left)
         → length (records_next (records_from cfg n) o) ≤ length (c ∷ rest)
     by None l fewer = omega arith
     by (Some r) l fewer = omega (arith, fewer r.1 r.2 l.1)

@@ -16,7 +16,8 @@ returns-in_err-slot c =
 
 pub loop-place-preserved : goal.loop-place-preserved
 loop-place-preserved c =
-    let here : option_and_then number (field_at (fields_of c.args.row.now) c.loop-place.place) ≡ Some c.in_ok-slot.field-0 = rw (← c.get.ensures.value) (search rules) in
+    let here : option_and_then number (field_at (fields_of c.args.row.now) c.loop-place.place) ≡ Some c.in_ok-slot.field-0
+    = rw (← c.get.ensures.value) (search rules) in
     let fits : FitsSigned w64 c.in_ok-slot.field-0 = search rules in
     let inside : c.loop-place.place < length c.loop-place.slot-items = omega arith in
     record {
