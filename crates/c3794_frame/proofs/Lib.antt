@@ -1,8 +1,10 @@
 pub mod Decoded
-pub mod Faults
-pub mod Layouts
+pub mod Encoded
 pub mod Lines
+pub mod Numbers
+pub mod Pairs
+pub mod Readings
+pub mod Sent
 pub mod Steps
 pub mod Streams
 pub mod Tables
-pub mod Unique

@@ -4,13 +4,14 @@ use Rattle.std.proofs.lemmas.Nat.{or_shifted}
 use Rattle.c3794_frame.specs.Nibble.{IsLineByte}
 
 -- the nibbles of the first n line bytes
-pub record AreNibblesTo (n : ℕ) (bits nibbles : List ℕ) : Type 0 where
+pub record AreNibblesTo (n : ℕ) (bytes nibbles : List ℕ) : Type 0 where
   pub long : length nibbles ≡ 30
-  pub each : (k : ℕ) → k < n → IsLineByte (get_or bits (2 + k) 0) (get_or nibbles k 0)
+  pub each : (k : ℕ) → k < n → IsLineByte (get_or bytes (2 + k) 0) (get_or nibbles k 0)
 
 -- one nibble more
-pub nibbles_more : (n nibble : ℕ) (bits nibbles : List ℕ) → n < 30 → AreNibblesTo n bits nibbles → IsLineByte (get_or bits (2 + n) 0) nibble → AreNibblesTo (n + 1) bits (set nibbles n nibble)
-nibbles_more n nibble bits nibbles within h line =
+pub nibbles_more : (n nibble : ℕ) (bytes nibbles : List ℕ) → n < 30 → AreNibblesTo n bytes nibbles
+    → IsLineByte (get_or bytes (2 + n) 0) nibble → AreNibblesTo (n + 1) bytes (set nibbles n nibble)
+nibbles_more n nibble bytes nibbles within h line =
     let inside : n < length nibbles = rw h.long within in
     record {
       long = length-set _ _ _ ∙ h.long;
@@ -29,7 +30,8 @@ pub byte_of : (high low : ℕ) → high < 16 → low < 16 → bit_or (high * 16 
 byte_of high low h l = let e : high * 16 % 256 ≡ high * 16 = omega arith in rw e (or_shifted high 4 low l)
 
 -- one byte more
-pub payload_more : (n : ℕ) (nibbles payload : List ℕ) → n < 12 → ((k : ℕ) → k < 30 → get_or nibbles k 0 < 16) → ArePayloadTo n nibbles payload
+pub payload_more : (n : ℕ) (nibbles payload : List ℕ) → n < 12 → ((k : ℕ) → k < 30 → get_or nibbles k 0 < 16)
+    → ArePayloadTo n nibbles payload
     → ArePayloadTo (n + 1) nibbles (set payload n (bit_or (get_or nibbles (6 + 2 * n) 0 * 16 % 256) (get_or nibbles (7 + 2 * n) 0)))
 payload_more n nibbles payload within small h =
     let inside : n < length payload = rw h.long within in

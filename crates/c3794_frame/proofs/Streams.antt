@@ -1,14 +1,36 @@
 -- Where 00001111 stands in a stream of frames: only at bits 8 to 15 of one.
-use Rattle.std.proofs.Common.{◌≡◌, ℕ, suc, zero, ◌+◌, ◌-◌, ◌*◌, ◌/◌, ◌%◌, ◌<◌, ◌≤◌, Bool, true, false, List, ◌++◌, length, get_or, refl, ap, ◌∙◌, inl, inr, arith, length-append}
-use Rattle.std.proofs.Math.ListN.{get_or-append}
-use Rattle.std.proofs.lemmas.Bool.{cases_lt}
-use Rattle.std.proofs.lemmas.List.{get_or-append_right}
-use Rattle.std.proofs.lemmas.Nat.Bits.{bit_at_cat_low, bit_at_cat_high, bit_at_ones, bit_at_ones_above}
+use Rattle.std.proofs.Common.{◌≡◌, ℕ, suc, zero, ◌+◌, ◌-◌, ◌*◌, ◌/◌, ◌%◌, ◌<◌, ◌≤◌, Bool, true, false, List, ◌++◌, length, get_or, take, drop, refl, ap, sym, ◌∙◌, inl, inr, arith, length-append, lit<}
 use Rattle.std.specs.Int.{bit_at}
-use Rattle.ld_base.specs.declared.words.Words.{Words}
-use Rattle.c3794_frame.specs.FrameOf.{FrameOf, Layout, line_bit, byte_bit, word}
+use Rattle.std.proofs.lemmas.Bool.{cases_lt}
+use Rattle.std.proofs.lemmas.List.{get_or-append_right, get_or-drop, get_or-take, get_or_append_left, get_or_past, length-drop, length-take-le}
+use Rattle.std.proofs.lemmas.Nat.Bits.{bit_at_cat_low, bit_at_cat_high, bit_at_ones, bit_at_ones_above}
+use Rattle.ld_base.specs.Words.{AreWords, HeaderWords}
+use Rattle.c3794_frame.specs.FrameOf.{FrameOf, Layout, header_of, word}
+use Rattle.c3794_frame.specs.Numbers.{AreBits, number_bits}
 use Rattle.c3794_frame.specs.Stream.{IsStream, WordStands}
 use Rattle.c3794_frame.specs.Stream.IsStream.{ends, goes_on}
+use Rattle.c3794_frame.proofs.Numbers.{get_or-number_bits, number_bits-number}
+
+-- the first bits of bits
+take_are : (n : ℕ) (bits : List ℕ) → n ≤ length bits → AreBits bits → AreBits (take n bits)
+take_are n bits few are = record {
+  each = λ i. elim (cases_lt i n) [
+    | inl within ↦ rw (get_or-take n bits i 0 within) (are.each i)
+    | inr past ↦ let none : get_or (take n bits) i 0 ≡ 0 = get_or_past (take n bits) i 0 (rw (length-take-le n bits few) past) in omega arith
+  ];
+}
+
+-- the bits behind a place
+drop_are : (n : ℕ) (bits : List ℕ) → AreBits bits → AreBits (drop n bits)
+drop_are n bits are = record { each = λ i. rw (get_or-drop n bits i 0) (are.each (n + i)) }
+
+-- each of the first sixteen bits is that of their number
+header_at : (bits : List ℕ) (i : ℕ) → AreBits bits → 16 ≤ length bits → i < 16
+    → get_or bits i 0 ≡ bit_at (header_of bits) (16 - 1 - i)
+header_at bits i are long below =
+    let all = number_bits-number (take 16 bits) (take_are 16 bits long are) in
+    let all' : number_bits 16 (header_of bits) ≡ take 16 bits = rw (length-take-le 16 bits long) at all in
+    sym (get_or-take 16 bits i 0 below) ∙ ap (λ xs. get_or xs i 0) (sym all') ∙ get_or-number_bits 16 (header_of bits) i below
 
 -- the bits of a number that begins with a 1 and ends in 00001111
 record HeaderBits (w : ℕ) : Type 0 where
@@ -25,9 +47,9 @@ header_bits x low high = record {
 }
 
 -- both header words are such numbers
-word_bits : (words : Words) (odd : Bool) → words.a < 256 → words.b < 256 → HeaderBits (word words odd)
-word_bits words true a b = header_bits words.b words.b_begins_with_one b
-word_bits words false a b = header_bits words.a words.a_begins_with_one a
+word_bits : (words : HeaderWords) (odd : Bool) → AreWords words → HeaderBits (word words odd)
+word_bits words true are = header_bits words.b are.b.0 are.b.1
+word_bits words false are = header_bits words.a are.a.0 are.a.1
 
 -- the bits of one frame, from its first on, as far as the place of a header needs them
 record FrameFacts (b : ℕ → ℕ) : Type 0 where
@@ -37,14 +59,17 @@ record FrameFacts (b : ℕ → ℕ) : Type 0 where
   pairs : (k : ℕ) → k < 120 → b (16 + 2 * k) + b (17 + 2 * k) ≡ 1
 
 -- they hold in each frame
-frame_facts : (words : Words) (bits : List ℕ) (f : Layout) → words.a < 256 → words.b < 256 → FrameOf words bits f
-    → FrameFacts (λ r. line_bit bits r)
-frame_facts words bits f a b frame =
-    let w : HeaderBits (word words f.odd) = word_bits words f.odd a b in
+frame_facts : (words : HeaderWords) (bits : List ℕ) (f : Layout) → AreWords words → FrameOf words bits f
+    → FrameFacts (λ r. get_or bits r 0)
+frame_facts words bits f are frame =
+    let w : HeaderBits (word words f.odd) = word_bits words f.odd are in
+    let long : length bits ≡ 256 = frame.long in
+    let at : (r j : ℕ) → r < 16 → j ≡ 15 - r → get_or bits r 0 ≡ bit_at (word words f.odd) j =
+    λ r j h e. header_at bits r frame.are_bits (omega arith) h ∙ ap (λ n. bit_at n (16 - 1 - r)) frame.header ∙ ap (bit_at (word words f.odd)) (omega arith) in
     record {
-      first = frame.header 0 (omega arith) ∙ w.first;
-      zeros = λ r l h. frame.header r (omega arith) ∙ w.zeros (15 - r) (omega arith) (omega arith);
-      ones = λ r l h. frame.header r (omega arith) ∙ w.ones (15 - r) (omega arith);
+      first = at 0 15 (omega arith) refl ∙ w.first;
+      zeros = λ r l h. at r (15 - r) (omega arith) refl ∙ w.zeros (15 - r) (omega arith) (omega arith);
+      ones = λ r l h. at r (15 - r) (omega arith) refl ∙ w.ones (15 - r) (omega arith);
       pairs = λ k h. frame.complements k h;
     }
 
@@ -88,61 +113,75 @@ window b t facts within next low high =
       ]
     ]
 
--- the first 256 bits of joined bytes are those of the first 32
-line_front : (bits rest : List ℕ) (i j : ℕ) → length bits ≡ 32 → i < 256 → j ≡ i → line_bit (bits ++ rest) j ≡ line_bit bits i
-line_front bits rest i j size below same =
-    ap (λ (x : ℕ). line_bit (bits ++ rest) x) same ∙ ap (λ (x : ℕ). byte_bit x (i % 8)) (get_or-append bits rest 0 (i / 8) (omega arith))
+-- the first 256 bits of joined bits are those of the first
+line_front : (bits rest : List ℕ) (i j : ℕ) → length bits ≡ 256 → i < 256 → j ≡ i → get_or (bits ++ rest) j 0 ≡ get_or bits i 0
+line_front bits rest i j size below same = ap (λ (x : ℕ). get_or (bits ++ rest) x 0) same ∙ get_or_append_left bits rest 0 i (omega arith)
 
 -- the bits from 256 on are those of the rest
-line_back : (bits rest : List ℕ) (i j : ℕ) → length bits ≡ 32 → j ≡ 256 + i → line_bit (bits ++ rest) j ≡ line_bit rest i
+line_back : (bits rest : List ℕ) (i j : ℕ) → length bits ≡ 256 → j ≡ 256 + i → get_or (bits ++ rest) j 0 ≡ get_or rest i 0
 line_back bits rest i j size same =
-    let byte : get_or (bits ++ rest) (j / 8) 0 ≡ get_or rest (j / 8 - 32) 0 = get_or-append_right bits rest 32 (j / 8) 0 size (omega arith) in
-    let at : j / 8 - 32 ≡ i / 8 = omega arith in
-    let bit : j % 8 ≡ i % 8 = omega arith in
-    ap (λ (x : ℕ). byte_bit x (j % 8)) (byte ∙ ap (λ (x : ℕ). get_or rest x 0) at) ∙ ap (λ (x : ℕ). byte_bit (get_or rest (i / 8) 0) x) bit
+    let at : j - 256 ≡ i = omega arith in
+    get_or-append_right bits rest 256 j 0 size (omega arith) ∙ ap (λ (x : ℕ). get_or rest x 0) at
 
--- these bytes are a count of frames
-record InFrames (bytes : List ℕ) : Type 0 where
+-- joined bits are bits
+joined_are : (bits rest : List ℕ) → length bits ≡ 256 → AreBits bits → AreBits rest → AreBits (bits ++ rest)
+joined_are bits rest size are more = record {
+  each = λ i. elim (cases_lt i 256) [
+    | inl near ↦ rw (line_front bits rest i i size near refl) (are.each i)
+    | inr far ↦ rw (line_back bits rest (i - 256) i size (omega arith)) (more.each (i - 256))
+  ];
+}
+
+-- these bits are a count of frames
+record InFrames (bits : List ℕ) : Type 0 where
   count : ℕ
-  size : length bytes ≡ 32 * count
-  frames : (q : ℕ) → q < count → FrameFacts (λ r. line_bit bytes (q * 256 + r))
+  size : length bits ≡ 256 * count
+  are_bits : AreBits bits
+  frames : (q : ℕ) → q < count → FrameFacts (λ r. get_or bits (q * 256 + r) 0)
 
 -- a frame before frames
-joined_frames : (bits rest : List ℕ) (n : ℕ) → length bits ≡ 32 → FrameFacts (λ r. line_bit bits r)
-    → ((q : ℕ) → q < n → FrameFacts (λ r. line_bit rest (q * 256 + r)))
-    → (q : ℕ) → q < suc n → FrameFacts (λ r. line_bit (bits ++ rest) (q * 256 + r))
+joined_frames : (bits rest : List ℕ) (n : ℕ) → length bits ≡ 256 → FrameFacts (λ r. get_or bits r 0)
+    → ((q : ℕ) → q < n → FrameFacts (λ r. get_or rest (q * 256 + r) 0))
+    → (q : ℕ) → q < suc n → FrameFacts (λ r. get_or (bits ++ rest) (q * 256 + r) 0)
 joined_frames bits rest n size first more zero h =
-    carry (λ r. line_bit bits r) (λ r. line_bit (bits ++ rest) (0 * 256 + r)) (λ r l. line_front bits rest r (0 * 256 + r) size l (omega arith)) first
+    carry (λ r. get_or bits r 0) (λ r. get_or (bits ++ rest) (0 * 256 + r) 0) (λ r l. line_front bits rest r (0 * 256 + r) size l (omega arith)) first
 joined_frames bits rest n size first more (suc q) h =
-    carry (λ r. line_bit rest (q * 256 + r)) (λ r. line_bit (bits ++ rest) (suc q * 256 + r))
+    carry (λ r. get_or rest (q * 256 + r) 0) (λ r. get_or (bits ++ rest) (suc q * 256 + r) 0)
     (λ r l. line_back bits rest (q * 256 + r) (suc q * 256 + r) size (omega arith)) (more q (omega arith))
 
 -- a stream is a count of frames
-stream_frames : {words : Words} {odd : Bool} {bytes : List ℕ} → words.a < 256 → words.b < 256 → IsStream words odd bytes → InFrames bytes
-stream_frames a b (ends odd) = record { count = 0; size = refl; frames = λ q h. absurd (omega arith) }
-stream_frames a b (goes_on odd bits rest f size same frame more) =
-    let r : InFrames rest = stream_frames a b more in
+stream_frames : {words : HeaderWords} {odd : Bool} {bits : List ℕ} → AreWords words → IsStream words odd bits → InFrames bits
+stream_frames are (ends odd) = record { count = 0; size = refl; are_bits = record { each = λ i. lit< tt }; frames = λ q h. absurd (omega arith) }
+stream_frames are (goes_on odd bits rest f same frame more) =
+    let r : InFrames rest = stream_frames are more in
+    let size : length bits ≡ 256 = frame.long in
     record {
       count = suc r.count;
-      size = omega (arith, length-append bits rest);
-      frames = λ q h. joined_frames bits rest r.count size (frame_facts _ bits f a b frame) (λ k l. r.frames k l) q h;
+      size = omega (arith, length-append bits rest, r.size);
+      are_bits = joined_are bits rest size frame.are_bits r.are_bits;
+      frames = λ q h. joined_frames bits rest r.count size (frame_facts _ bits f are frame) (λ k l. r.frames k l) q h;
     }
 
 -- in a stream a header word of bytes from 128 on stands only where a frame begins
-pub word_at_frame : (words : Words) (odd which : Bool) (bytes : List ℕ) (p : ℕ) → words.a < 256 → words.b < 256
-    → IsStream words odd bytes → WordStands words bytes p which → p % 256 ≡ 0
-word_at_frame words odd which bytes p a b stream stands =
-    let r : InFrames bytes = stream_frames a b stream in
-    let w : HeaderBits (word words which) = word_bits words which a b in
+pub word_at_frame : (words : HeaderWords) (odd which : Bool) (bits : List ℕ) (p : ℕ) → AreWords words
+    → IsStream words odd bits → WordStands words bits p which → p % 256 ≡ 0
+word_at_frame words odd which bits p are stream stands =
+    let r : InFrames bits = stream_frames are stream in
+    let w : HeaderBits (word words which) = word_bits words which are in
     let n : ℕ = r.count in
-    let long : p + 16 ≤ 8 * length bytes = stands.0 in
-    let sized : length bytes ≡ 32 * n = r.size in
+    let long : p + 16 ≤ length bits = stands.within in
+    let sized : length bits ≡ 256 * n = r.size in
+    let behind : 16 ≤ length (drop p bits) = omega (arith, length-drop p bits) in
     let q : ℕ = (p + 8) / 256 in
     let t : ℕ = (p + 8) % 256 in
-    let at : (k i : ℕ) → k ≡ p + i → i < 16 → line_bit bytes k ≡ bit_at (word words which) (15 - i) =
-    λ k i e h. ap (λ (x : ℕ). line_bit bytes x) e ∙ stands.1 i h in
-    let eight : t ≡ 8 = window (λ r. line_bit bytes (q * 256 + r)) t (r.frames q (omega arith)) (omega arith)
-    (λ e. ap (λ (x : ℕ). line_bit bytes x) (omega arith) ∙ (r.frames (q + 1) (omega arith)).first)
-    (λ k l h. at (q * 256 + k) (q * 256 + k - p) (omega arith) (omega arith) ∙ w.zeros (15 - (q * 256 + k - p)) (omega arith) (omega arith))
-    (λ k l h. at (q * 256 + k) (q * 256 + k - p) (omega arith) (omega arith) ∙ w.ones (15 - (q * 256 + k - p)) (omega arith)) in
+    let at : (k i : ℕ) → k ≡ p + i → i < 16 → get_or bits k 0 ≡ bit_at (word words which) (15 - i) =
+    λ k i e h. ap (λ (x : ℕ). get_or bits x 0) e ∙ sym (get_or-drop p bits i 0)
+    ∙ header_at (drop p bits) i (drop_are p bits r.are_bits) behind h
+    ∙ ap (λ (x : ℕ). bit_at x (16 - 1 - i)) stands.there ∙ ap (bit_at (word words which)) (omega arith) in
+    let low = λ (k : ℕ) (l : t ≤ k) (h : k < t + 4).
+    at (q * 256 + k) (q * 256 + k - p) (omega arith) (omega arith) ∙ w.zeros (15 - (q * 256 + k - p)) (omega arith) (omega arith) in
+    let high = λ (k : ℕ) (l : t + 4 ≤ k) (h : k < t + 8).
+    at (q * 256 + k) (q * 256 + k - p) (omega arith) (omega arith) ∙ w.ones (15 - (q * 256 + k - p)) (omega arith) in
+    let eight : t ≡ 8 = window (λ r. get_or bits (q * 256 + r) 0) t (r.frames q (omega arith)) (omega arith)
+    (λ e. ap (λ (x : ℕ). get_or bits x 0) (omega arith) ∙ (r.frames (q + 1) (omega arith)).first) low high in
     omega arith

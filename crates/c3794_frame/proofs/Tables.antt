@@ -5,7 +5,7 @@ use Rattle.std.specs.Int.Count.{count_leading_zeros}
 use Rattle.std.specs.Int.RustNames.{bit_xor}
 use Rattle.std.proofs.lemmas.Bool.Decides.{nat_tests}
 use Rattle.std.proofs.lemmas.Bool.{eqb-true, ltb-true, eq-eqb, lt-ltb, cases_eq}
-use Rattle.c3794_frame.specs.FrameOf.{byte_bit}
+use Rattle.ld_base.specs.Bits.{byte_bit}
 use Rattle.c3794_frame.specs.Nibble.{IsLineByte, IsFirstEqual}
 use Rattle.c3794_frame.specs.declared.nibbles.TheConstants.{LINE_BYTES, NIBBLES}
 
@@ -31,7 +31,8 @@ not_both true false h x y = cc
 not_both false b h x y = cc
 
 -- what passes at each entry passes at one
-at_entry : (test : ℕ → ℕ → Bool) (i : ℕ) (xs : List ℕ) (k : ℕ) → each_entry test i xs ≡ true → k < length xs → test (i + k) (get_or xs k 0) ≡ true
+at_entry : (test : ℕ → ℕ → Bool) (i : ℕ) (xs : List ℕ) (k : ℕ) → each_entry test i xs ≡ true → k < length xs
+    → test (i + k) (get_or xs k 0) ≡ true
 unfolding each_entry
 at_entry test i [] k h within = absurd (omega arith)
 at_entry test i (x ∷ xs) zero h within = let e : i + 0 ≡ i = omega arith in rw e ((both _ _ h).0)

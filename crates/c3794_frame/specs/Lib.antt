@@ -1,5 +1,7 @@
 pub mod Frame
 pub mod FrameOf
 pub mod Nibble
-pub mod Faults
+pub mod Numbers
+pub mod Reading
 pub mod Stream
+pub mod View

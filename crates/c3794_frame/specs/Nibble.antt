@@ -1,8 +1,7 @@
 -- Four bits and the line byte that they make, each bit followed by its complement.
-use Rattle.std.specs.Prelude.{◌≡◌, ◌≢◌, ℕ, ◌+◌, ◌-◌, ◌*◌, ◌%◌, ◌<◌, List, length, slice_index, Bool, if◌then◌else◌}
+use Rattle.std.specs.Prelude.{◌≡◌, ◌≢◌, ℕ, ◌+◌, ◌-◌, ◌*◌, ◌%◌, ◌<◌, List, length, slice_index}
 use Rattle.std.specs.Int.{bit_at}
-use Rattle.c3794_frame.specs.FrameOf.{byte_bit}
-use Rattle.ld_base.specs.declared.words.Words.{Words}
+use Rattle.ld_base.specs.Bits.{byte_bit}
 
 -- a line byte with these four data bits
 pub record IsLineByte (byte nibble : ℕ) : Type 0 where
@@ -18,15 +17,10 @@ pub record IsFirstEqual (byte at : ℕ) : Type 0 where
   pub before : (j : ℕ) → 2 * j < at → byte_bit byte (2 * j) ≢ byte_bit byte (2 * j + 1)
 
 -- the nibbles of the thirty line bytes behind the header
-pub record AreNibbles (bits nibbles : List ℕ) : Type 0 where
-  pub each : (k : ℕ) → k < 30 → IsLineByte (slice_index bits (2 + k)) (slice_index nibbles k)
+pub record AreNibbles (bytes nibbles : List ℕ) : Type 0 where
+  pub each : (k : ℕ) → k < 30 → IsLineByte (slice_index bytes (2 + k)) (slice_index nibbles k)
 
 -- the twelve bytes of payload that the nibbles from the seventh on make
 pub record ArePayload (nibbles payload : List ℕ) : Type 0 where
   pub long : length payload ≡ 12
   pub each : (k : ℕ) → k < 12 → slice_index payload k ≡ slice_index nibbles (6 + 2 * k) * 16 + slice_index nibbles (7 + 2 * k)
-
--- the first two bytes are this header word
-pub record IsHeader (words : Words) (bits : List ℕ) (odd : Bool) : Type 0 where
-  pub first : slice_index bits 0 ≡ (if odd then words.b else words.a)
-  pub second : slice_index bits 1 ≡ 15

@@ -1,11 +1,13 @@
-ghost use Rattle.std.specs.Prelude.{◌≡◌, ◌≤◌, ◌<◌, ℕ, Bool, None, Some, Ok, MatchOption, MatchResult, slice_index};
-ghost use Rattle.c3794_frame.specs.Faults.{broken_pair, frame_fault, pair_fault};
+ghost use Rattle.std.specs.Prelude.{◌≡◌, ◌≤◌, ◌<◌, ℕ, Some, Ok, IfOk, MatchResult, length, option_map, slice_index};
+ghost use Rattle.c3794_frame.specs.Numbers.{bits_of};
+ghost use Rattle.ld_base.specs.Words.{AreWords};
 ghost use Rattle.c3794_frame.specs.Frame.{IsFrame};
 ghost use Rattle.c3794_frame.specs.FrameOf.{FrameOf, Layout};
-ghost use Rattle.c3794_frame.specs.Nibble.{AreNibbles, ArePayload, IsHeader};
+ghost use Rattle.c3794_frame.specs.Nibble.{AreNibbles, ArePayload};
+ghost use Rattle.c3794_frame.specs.Reading.{broken_pair, read_frame};
 
 use crate::Frame;
-use crate::encoding::first_byte;
+use crate::header::word_of;
 use crate::nibbles::nibble;
 use ld_base::Words;
 
@@ -24,12 +26,21 @@ pub enum FrameFault {
 /// bits are ignored.
 pub fn decode(bits: &[u8; 32], channels: u8, words: &Words) -> Result<Frame, FrameFault>
     requires { (1 ≤ channels) × (channels ≤ 12) }
-    ensures fault { MatchResult result
-        (λ f. (frame_fault words.now channels bits.now ≡ None) × FrameOf words.now bits.now f × (f.channels ≡ channels))
-        (λ fault. frame_fault words.now channels bits.now ≡ Some fault) }
-    ensures exact { (f : Layout) → IsFrame f → FrameOf words.now bits.now f → f.channels ≡ channels → result ≡ Ok f }
+    ensures reading { result ≡ read_frame words.now channels (bits_of bits.now) }
+    ensures frame { IfOk result (λ f. FrameOf words.now (bits_of bits.now) f × (f.channels ≡ channels)) }
+    ensures exact { (f : Layout) → IsFrame f → FrameOf words.now (bits_of bits.now) f → f.channels ≡ channels → result ≡ Ok f }
 {
-    let Some(odd) = word_of(bits, words) else {
+    read(bits, channels, words)
+}
+
+// The reading of the bits, which the clauses of `decode` rest on.
+fn read(bits: &[u8; 32], channels: u8, words: &Words) -> Result<Frame, FrameFault>
+    requires { (1 ≤ channels) × (channels ≤ 12) }
+    ensures reading { result ≡ read_frame words.now channels (bits_of bits.now) }
+    ensures words { AreWords words.now }
+    ensures long { length bits.now ≡ 32 }
+{
+    let Some(odd) = word_of(u16::from_be_bytes([bits[0], bits[1]]), words) else {
         return Err(FrameFault::Header);
     };
     let nibbles = nibbles_of(bits)?;
@@ -40,31 +51,11 @@ pub fn decode(bits: &[u8; 32], channels: u8, words: &Words) -> Result<Frame, Fra
     Ok(Frame::new(odd, nibbles[1] & 8 != 0, &payload[..channels as usize]))
 }
 
-// Whether the first two bytes are word B and not word A; None where they are neither.
-fn word_of(bits: &[u8; 32], words: &Words) -> Option<bool>
-    ensures word { MatchOption result
-        ((odd : Bool) → IsHeader words.now bits.now odd → ⊥)
-        (λ odd. IsHeader words.now bits.now odd) }
-    ensures bytes { (words.now.a < 256) × (words.now.b < 256) }
-{
-    let word_a = first_byte(words, false);
-    let word_b = first_byte(words, true);
-    if bits[1] != 0x0F {
-        None
-    } else if bits[0] == word_b {
-        Some(true)
-    } else if bits[0] == word_a {
-        Some(false)
-    } else {
-        None
-    }
-}
-
 // The nibbles of the thirty line bytes behind the header, or the first broken pair.
 fn nibbles_of(bits: &[u8; 32]) -> Result<[u8; 30], FrameFault>
     ensures { MatchResult result
         (λ nibbles. AreNibbles bits.now nibbles)
-        (λ fault. pair_fault (broken_pair bits.now) None ≡ Some fault) }
+        (λ fault. option_map (λ i. FrameFault.Pair i) (broken_pair (bits_of bits.now)) ≡ Some fault) }
 {
     let mut nibbles = [0; 30];
     for k in 0..nibbles.len() {

@@ -1,19 +1,22 @@
-ghost use Rattle.std.specs.Prelude.{◌≡◌, if◌then◌else◌};
-ghost use Rattle.c3794_frame.specs.FrameOf.{FrameOf, IsPadded};
+ghost use Rattle.std.specs.Prelude.{◌≡◌};
+ghost use Rattle.c3794_frame.specs.Numbers.{bits_of};
+ghost use Rattle.c3794_frame.specs.FrameOf.{FrameOf, frame_bits};
 
 use crate::Frame;
+use crate::header::header_word;
 use crate::nibbles::line_byte;
 use ld_base::Words;
 
 /// The 256 bits of a frame, eight a byte, the first bit the highest. The spare bits are zeros and the unused payload bits
 /// ones.
 pub fn encode(f: &Frame, words: &Words) -> [u8; 32]
-    ensures frame { FrameOf words.now result f.now }
-    ensures padded { IsPadded result f.now }
+    ensures bits { bits_of result ≡ frame_bits words.now f.now }
+    ensures frame { FrameOf words.now (bits_of result) f.now }
 {
     let mut bits = [0x55; 32];
-    bits[0] = first_byte(words, f.odd());
-    bits[1] = 0x0F;
+    let [first, second] = header_word(words, f.odd()).to_be_bytes();
+    bits[0] = first;
+    bits[1] = second;
     bits[2] = line_byte(f.channels());
     if f.yellow() {
         bits[3] = 0x95;
@@ -24,11 +27,4 @@ pub fn encode(f: &Frame, words: &Words) -> [u8; 32]
         bits[9 + 2 * k] = line_byte(payload[k] & 0x0F);
     }
     bits
-}
-
-/// The first byte of word B, where `odd` is true, or else of word A.
-pub(crate) fn first_byte(words: &Words, odd: bool) -> u8
-    ensures { result ≡ (if odd then words.now.b else words.now.a) }
-{
-    if odd { words.b } else { words.a }
 }

@@ -21,10 +21,11 @@ impl Model for Frame {
     ghost Value = { Layout };
 
     ghost use Rattle.c3794_frame.specs.Frame.{IsFrame};
+    ghost use Rattle.c3794_frame.specs.View.{layout};
 
-    ghost view = { λ f. record { odd = f.odd; channels = f.channels; yellow = f.yellow; payload = f.payload } };
+    ghost view = { layout };
 
-    ghost invariant = { λ f. IsFrame (record { odd = f.odd; channels = f.channels; yellow = f.yellow; payload = f.payload }) };
+    ghost invariant = { λ f. IsFrame (layout f) };
 
     ghost inverse = { λ f. record { odd = f.odd; channels = f.channels; yellow = f.yellow; payload = f.payload } };
 }

@@ -4,12 +4,14 @@
 mod decoding;
 mod encoding;
 mod frame;
+mod header;
 pub mod laws;
 mod nibbles;
 
 pub use decoding::{FrameFault, decode};
 pub use encoding::encode;
 pub use frame::Frame;
+pub use header::{header_word, word_of};
 
 #[cfg(test)]
 mod tests;

@@ -1,4 +1,4 @@
-use Rattle.c3794_frame.proofs.Layouts.{IsEncodedTo}
+use Rattle.c3794_frame.proofs.Encoded.{IsEncodedTo}
 use Rattle.c3794_frame.proofs.encoding.encode.Given as goal
 
 abbrev pub invariant-loop-k : goal.invariant-loop-k
