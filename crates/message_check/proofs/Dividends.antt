@@ -3,9 +3,10 @@ use Rattle.std.proofs.Common.{◌≡◌, ℕ, ◌+◌, ◌-◌, ◌*◌, ◌%◌
 use Rattle.std.proofs.lemmas.List.{length-append}
 use Rattle.std.proofs.lemmas.List.Sums.{fold-append}
 use Rattle.std.proofs.lemmas.Nat.{and_mask, pow-add, xor_lt}
+use Rattle.std.specs.Int.Bits.{xor_assoc, xor_shifted}
 use Rattle.message_check.specs.Check.{divisor, ones, polynomial, dividend, IsCheck}
 use Rattle.message_check.specs.Polynomials.{IsMultiple, IsRemainder}
-use Rattle.message_check.proofs.Xor.{xor_assoc, xor_cancel, xor_right, xor_shift, xor_low, xor_not}
+use Rattle.message_check.proofs.Xor.{xor_cancel, xor_right, xor_shift, xor_not}
 use Rattle.message_check.proofs.Division.{IsMultiple-self, IsRemainder-low, IsRemainder-shift, IsRemainder-step}
 
 -- a remainder times x, less x^32, as it is computed
@@ -20,25 +21,31 @@ IsRemainder-times_x_low r h =
 
 -- the divisor is taken off once
 xor-divisor : (d : ℕ) → d < 2 ^ 32 → bit_xor (2 ^ 32 + d) (bit_xor d 0x04C11DB7) ≡ divisor
-xor-divisor d h = ap (λ x. bit_xor x (bit_xor d 0x04C11DB7)) (sym (xor_low 1 32 d h)) ∙ xor_assoc (2 ^ 32) d (bit_xor d 0x04C11DB7) ∙ ap (bit_xor (2 ^ 32)) (xor_cancel d 0x04C11DB7)
+xor-divisor d h =
+    ap (λ x. bit_xor x (bit_xor d 0x04C11DB7)) (sym (xor_shifted 1 32 d h)) ∙ xor_assoc (2 ^ 32) d (bit_xor d 0x04C11DB7)
+    ∙ ap (bit_xor (2 ^ 32)) (xor_cancel d 0x04C11DB7)
 
 -- a remainder times x that reaches x^32
-pub IsRemainder-times_x_high : (r : ℕ) → 2 ^ 31 ≤ r → r < 2 ^ 32 → IsRemainder 32 divisor (r * 2) (bit_xor (bit_and r 0x7FFFFFFF * 2 % 2 ^ 32) 0x04C11DB7)
+pub IsRemainder-times_x_high : (r : ℕ) → 2 ^ 31 ≤ r → r < 2 ^ 32
+    → IsRemainder 32 divisor (r * 2) (bit_xor (bit_and r 0x7FFFFFFF * 2 % 2 ^ 32) 0x04C11DB7)
 IsRemainder-times_x_high r low high =
     let e : r * 2 ≡ 2 ^ 32 + r % 2 ^ 31 * 2 = omega arith in
+    let taken = ap (λ x. bit_xor x (bit_xor (r % 2 ^ 31 * 2) 0x04C11DB7)) e ∙ xor-divisor (r % 2 ^ 31 * 2) (omega arith) in
     subst (λ d. IsRemainder 32 divisor (r * 2) (bit_xor d 0x04C11DB7)) (sym (doubled-is r)) (record {
-      multiple = subst (IsMultiple divisor) (sym (ap (λ x. bit_xor x (bit_xor (r % 2 ^ 31 * 2) 0x04C11DB7)) e ∙ xor-divisor (r % 2 ^ 31 * 2) (omega arith))) (IsMultiple-self divisor);
+      multiple = subst (IsMultiple divisor) (sym taken) (IsMultiple-self divisor);
       lower = xor_lt 32 (r % 2 ^ 31 * 2) 0x04C11DB7 (omega arith) (omega arith);
     })
 
 -- the division by turns: one turn more
-pub IsRemainder-turn : (a i r s : ℕ) → IsRemainder 32 divisor (a * 2 ^ i) r → IsRemainder 32 divisor (r * 2) s → IsRemainder 32 divisor (a * 2 ^ (i + 1)) s
+pub IsRemainder-turn : (a i r s : ℕ) → IsRemainder 32 divisor (a * 2 ^ i) r → IsRemainder 32 divisor (r * 2) s
+    → IsRemainder 32 divisor (a * 2 ^ (i + 1)) s
 IsRemainder-turn a i r s p q =
     let e : a * 2 ^ i * 2 ^ 1 ≡ a * 2 ^ (i + 1) = sym (ap (λ x. a * x) (pow-add 2 i 1) ∙ omega arith) in
     subst (λ x. IsRemainder 32 divisor x s) e (IsRemainder-shift 32 divisor (a * 2 ^ i) r 1 s p q)
 
 -- before the first turn: a byte is added in front of x^24
-pub IsRemainder-first_turn : (r byte : ℕ) → r < 2 ^ 32 → byte < 2 ^ 8 → IsRemainder 32 divisor (bit_xor r (byte * 2 ^ 24) * 2 ^ 0) (bit_xor r (byte * 2 ^ 24 % 2 ^ 32))
+pub IsRemainder-first_turn : (r byte : ℕ) → r < 2 ^ 32 → byte < 2 ^ 8
+    → IsRemainder 32 divisor (bit_xor r (byte * 2 ^ 24) * 2 ^ 0) (bit_xor r (byte * 2 ^ 24 % 2 ^ 32))
 IsRemainder-first_turn r byte h k =
     let same : byte * 2 ^ 24 % 2 ^ 32 ≡ byte * 2 ^ 24 = omega arith in
     let once : bit_xor r (byte * 2 ^ 24) ≡ bit_xor r (byte * 2 ^ 24) * 2 ^ 0 = omega arith in
@@ -47,7 +54,8 @@ IsRemainder-first_turn r byte h k =
     (IsRemainder-low 32 divisor (bit_xor r (byte * 2 ^ 24)) (xor_lt 32 r (byte * 2 ^ 24) h (omega arith))))
 
 -- after the eighth turn
-pub IsRemainder-last_turn : (r byte i s : ℕ) → i ≡ 8 → IsRemainder 32 divisor (bit_xor r (byte * 2 ^ 24) * 2 ^ i) s → IsRemainder 32 divisor (bit_xor (r * 2 ^ 8) (byte * 2 ^ 32)) s
+pub IsRemainder-last_turn : (r byte i s : ℕ) → i ≡ 8 → IsRemainder 32 divisor (bit_xor r (byte * 2 ^ 24) * 2 ^ i) s
+    → IsRemainder 32 divisor (bit_xor (r * 2 ^ 8) (byte * 2 ^ 32)) s
 IsRemainder-last_turn r byte i s last p =
     let e : byte * 2 ^ 24 * 2 ^ 8 ≡ byte * 2 ^ 32 = omega arith in
     subst (λ x. IsRemainder 32 divisor x s)
@@ -63,9 +71,11 @@ dividend-push : (bytes : List ℕ) (byte : ℕ) → byte < 2 ^ 8 → dividend (b
 dividend-push bytes byte h =
     let p = polynomial bytes in
     let o = ones * 2 ^ (8 * length bytes) in
-    let joined : polynomial (bytes ++ (byte ∷ [])) ≡ bit_xor (p * 2 ^ 8) byte = polynomial-push bytes byte ∙ omega arith ∙ sym (xor_low p 8 byte h) in
+    let joined : polynomial (bytes ++ (byte ∷ [])) ≡ bit_xor (p * 2 ^ 8) byte =
+    polynomial-push bytes byte ∙ omega arith ∙ sym (xor_shifted p 8 byte h) in
     let more : 8 * length (bytes ++ (byte ∷ [])) ≡ 8 * length bytes + 8 = omega (arith, length-append bytes (byte ∷ [])) in
-    let power : ones * 2 ^ (8 * length (bytes ++ (byte ∷ []))) ≡ o * 2 ^ 8 = ap (λ j. ones * 2 ^ j) more ∙ ap (λ x. ones * x) (pow-add 2 (8 * length bytes) 8) ∙ omega arith in
+    let power : ones * 2 ^ (8 * length (bytes ++ (byte ∷ []))) ≡ o * 2 ^ 8 =
+    ap (λ j. ones * 2 ^ j) more ∙ ap (λ x. ones * x) (pow-add 2 (8 * length bytes) 8) ∙ omega arith in
     let turned : p * 2 ^ 8 * 2 ^ 32 ≡ p * 2 ^ 32 * 2 ^ 8 = omega arith in
     ap (λ x. bit_xor (x * 2 ^ 32) (ones * 2 ^ (8 * length (bytes ++ (byte ∷ []))))) joined
     ∙ ap (bit_xor (bit_xor (p * 2 ^ 8) byte * 2 ^ 32)) power
@@ -75,7 +85,8 @@ dividend-push bytes byte h =
     ∙ ap (λ x. bit_xor x (byte * 2 ^ 32)) (xor_shift (p * 2 ^ 32) o 8)
 
 -- so the remainder of one byte more
-pub IsRemainder-push : (bytes : List ℕ) (byte r s : ℕ) → byte < 2 ^ 8 → IsRemainder 32 divisor (dividend bytes) r → IsRemainder 32 divisor (bit_xor (r * 2 ^ 8) (byte * 2 ^ 32)) s
+pub IsRemainder-push : (bytes : List ℕ) (byte r s : ℕ) → byte < 2 ^ 8 → IsRemainder 32 divisor (dividend bytes) r
+    → IsRemainder 32 divisor (bit_xor (r * 2 ^ 8) (byte * 2 ^ 32)) s
     → IsRemainder 32 divisor (dividend (bytes ++ (byte ∷ []))) s
 IsRemainder-push bytes byte r s h p q = subst (λ x. IsRemainder 32 divisor x s) (sym (dividend-push bytes byte h))
     (IsRemainder-step 32 divisor (dividend bytes) r 8 (byte * 2 ^ 32) s p q)

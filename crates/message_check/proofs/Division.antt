@@ -1,9 +1,9 @@
 -- Multiples and remainders of polynomials over the numbers 0 and 1.
 use Rattle.std.proofs.Common.{◌≡◌, ℕ, ◌+◌, ◌*◌, ◌^◌, ◌<◌, List, [], ◌∷◌, ◌++◌, map, bit_xor, arith, sym, refl, ap, ◌∙◌, subst}
-use Rattle.std.specs.Int.Bits.{xor_self, xor_zero_l, xor_zero_r}
+use Rattle.std.specs.Int.Bits.{xor_assoc, xor_self, xor_zero_l, xor_zero_r}
 use Rattle.std.proofs.lemmas.Nat.{xor_lt, pow-add}
 use Rattle.message_check.specs.Polynomials.{times, IsMultiple, IsRemainder}
-use Rattle.message_check.proofs.Xor.{xor_assoc, xor_cancel, xor_swap, xor_same_right, xor_shift}
+use Rattle.message_check.proofs.Xor.{xor_cancel, xor_swap, xor_same_right, xor_shift}
 
 -- the product with a sum is the sum of the products
 times-append : (g : ℕ) (p q : List ℕ) → times g (p ++ q) ≡ bit_xor (times g p) (times g q)
@@ -37,7 +37,8 @@ pub IsMultiple-shift : (g m k : ℕ) → IsMultiple g m → IsMultiple g (m * 2 
 IsMultiple-shift g m k p = (map (λ j. j + k) p.0, ap (λ x. x * 2 ^ k) p.1 ∙ sym (times-shift g k p.0))
 
 -- remainders of two dividends add up to that of their sum
-pub IsRemainder-add : (degree g a b r s : ℕ) → IsRemainder degree g a r → IsRemainder degree g b s → IsRemainder degree g (bit_xor a b) (bit_xor r s)
+pub IsRemainder-add : (degree g a b r s : ℕ) → IsRemainder degree g a r → IsRemainder degree g b s
+    → IsRemainder degree g (bit_xor a b) (bit_xor r s)
 IsRemainder-add degree g a b r s p q = record {
   multiple = subst (IsMultiple g) (xor_swap a r b s) (IsMultiple-add g (bit_xor a r) (bit_xor b s) p.multiple q.multiple);
   lower = xor_lt degree r s p.lower q.lower;
@@ -51,12 +52,14 @@ IsRemainder-same degree g a b r m p = record {
 }
 
 -- the remainder of x^k times a dividend is that of x^k times its remainder
-pub IsRemainder-shift : (degree g a r k s : ℕ) → IsRemainder degree g a r → IsRemainder degree g (r * 2 ^ k) s → IsRemainder degree g (a * 2 ^ k) s
+pub IsRemainder-shift : (degree g a r k s : ℕ) → IsRemainder degree g a r → IsRemainder degree g (r * 2 ^ k) s
+    → IsRemainder degree g (a * 2 ^ k) s
 IsRemainder-shift degree g a r k s p q = IsRemainder-same degree g (a * 2 ^ k) (r * 2 ^ k) s
     (subst (IsMultiple g) (sym (xor_shift a r k)) (IsMultiple-shift g (bit_xor a r) k p.multiple)) q
 
 -- so is the remainder of x^k times a dividend and more
-pub IsRemainder-step : (degree g a r k b s : ℕ) → IsRemainder degree g a r → IsRemainder degree g (bit_xor (r * 2 ^ k) b) s → IsRemainder degree g (bit_xor (a * 2 ^ k) b) s
+pub IsRemainder-step : (degree g a r k b s : ℕ) → IsRemainder degree g a r → IsRemainder degree g (bit_xor (r * 2 ^ k) b) s
+    → IsRemainder degree g (bit_xor (a * 2 ^ k) b) s
 IsRemainder-step degree g a r k b s p q = IsRemainder-same degree g (bit_xor (a * 2 ^ k) b) (bit_xor (r * 2 ^ k) b) s
     (subst (IsMultiple g)
     (sym (xor_same_right (a * 2 ^ k) (r * 2 ^ k) b ∙ xor_shift a r k))

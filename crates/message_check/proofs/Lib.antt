@@ -1,4 +1,6 @@
+pub mod BytePolynomials
 pub mod Bytes
+pub mod Checks
 pub mod Damage
 pub mod Dividends
 pub mod Division

@@ -1,7 +1,7 @@
 -- Check: the remainder of a message. (CRC-32/BZIP2.)
 use Rattle.std.specs.Prelude.{ℕ, ◌+◌, ◌-◌, ◌*◌, ◌^◌, ◌<◌, List, length, fold, bit_xor}
 use Rattle.std.specs.List.{AllByRecursion}
-use Rattle.message_check.specs.Polynomials.{IsRemainder}
+use Rattle.message_check.specs.Polynomials.{IsRemainder, remainder}
 
 -- the divisor: x^32 and the polynomial 0x04C11DB7
 abbrev pub divisor : ℕ
@@ -22,6 +22,10 @@ dividend bytes = bit_xor (polynomial bytes * 2 ^ 32) (ones * 2 ^ (8 * length byt
 -- the check of some bytes: the remainder of the dividend by the divisor, and 32 ones added to it
 abbrev pub IsCheck : List ℕ → ℕ → Type 0
 IsCheck bytes check = IsRemainder 32 divisor (dividend bytes) (bit_xor check ones)
+
+-- the same as a function
+unfoldable pub check_of : List ℕ → ℕ
+check_of bytes = bit_xor (remainder 32 divisor (8 * length bytes) (dividend bytes)) ones
 
 -- numbers that are bytes
 abbrev pub AreBytes : List ℕ → Type 0

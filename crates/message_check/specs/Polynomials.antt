@@ -1,6 +1,6 @@
 -- Polynomials over the numbers 0 and 1. A polynomial is a number whose bit k is the coefficient of x^k, so that the sum of
 -- two is their exclusive or, and multiplying by x^k is multiplying by 2^k.
-use Rattle.std.specs.Prelude.{◌≡◌, ℕ, ◌*◌, ◌^◌, ◌<◌, List, [], ◌∷◌, bit_xor}
+use Rattle.std.specs.Prelude.{◌≡◌, ℕ, zero, suc, ◌+◌, ◌*◌, ◌^◌, ◌<◌, nat_lt, if◌then◌else◌, List, [], ◌∷◌, bit_xor}
 
 -- the product of a polynomial and the sum of x^k for these k
 abbrev pub times : ℕ → List ℕ → ℕ
@@ -16,3 +16,9 @@ IsMultiple g m = (q : List ℕ) × (m ≡ times g q)
 pub record IsRemainder (degree g dividend r : ℕ) : Type 0 where
   pub multiple : IsMultiple g (bit_xor dividend r)
   pub lower : r < 2 ^ degree
+
+-- the same as long division, which takes the highest term off first: of a dividend below x^(degree + terms)
+unfoldable pub remainder : ℕ → ℕ → ℕ → ℕ → ℕ
+remainder degree g zero dividend = dividend
+remainder degree g (suc terms) dividend =
+    remainder degree g terms (if nat_lt dividend (2 ^ (degree + terms)) then dividend else bit_xor dividend (g * 2 ^ terms))

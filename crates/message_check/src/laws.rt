@@ -1,7 +1,7 @@
 //! The laws of the check, each the contract of a function that does nothing.
 
-ghost use Rattle.std.specs.Prelude.{◌≡◌, ◌≢◌, ◌≤◌, ◌<◌, ◌++◌, ℕ, List, length};
-ghost use Rattle.message_check.specs.Check.{AreBytes, IsCheck, divisor};
+ghost use Rattle.std.specs.Prelude.{◌≡◌, ◌≢◌, ◌≤◌, ◌<◌, ◌++◌, ◌↔◌, ℕ, List, length};
+ghost use Rattle.message_check.specs.Check.{AreBytes, IsCheck, check_of, divisor};
 ghost use Rattle.message_check.specs.Polynomials.{IsRemainder};
 
 /// Each polynomial has a remainder by the divisor.
@@ -12,6 +12,11 @@ pub fn a_remainder_exists()
 /// And no other.
 pub fn a_remainder_is_unique()
     ensures { (dividend r s : ℕ) → IsRemainder 32 divisor dividend r → IsRemainder 32 divisor dividend s → r ≡ s }
+{}
+
+/// The check of some bytes is what `check_of` calculates, and nothing else is.
+pub fn the_check_is_calculated()
+    ensures { (bytes : List ℕ) (check : ℕ) → AreBytes bytes → IsCheck bytes check ↔ (check ≡ check_of bytes) }
 {}
 
 /// Two lists of bytes of one length that differ, and only within four consecutive bytes, have different checks.

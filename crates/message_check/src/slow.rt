@@ -1,13 +1,14 @@
-ghost use Rattle.std.specs.Prelude.{◌*◌, ◌^◌, bit_xor};
-ghost use Rattle.message_check.specs.Check.{IsCheck, divisor};
+ghost use Rattle.std.specs.Prelude.{◌≡◌, ◌*◌, ◌^◌, bit_xor};
+ghost use Rattle.message_check.specs.Check.{IsCheck, check_of, divisor};
 ghost use Rattle.message_check.specs.Polynomials.{IsRemainder};
 
 /// The polynomial x^32 less its highest term: the divisor is this and x^32.
-pub const POLYNOMIAL: u32 = 0x04C1_1DB7;
+const POLYNOMIAL: u32 = 0x04C1_1DB7;
 
 /// The check of some bytes, bit by bit.
 pub fn check(bytes: &[u8]) -> u32
-    ensures { IsCheck bytes.now result }
+    ensures remainder { IsCheck bytes.now result }
+    ensures value { result ≡ check_of bytes.now }
 {
     let mut remainder = u32::MAX;
     for byte in bytes {

@@ -4,6 +4,7 @@ use Rattle.std.proofs.lemmas.List.{take_more, take_all}
 use Rattle.message_check.specs.Check.{divisor, ones, dividend}
 use Rattle.message_check.specs.Polynomials.{IsRemainder}
 use Rattle.message_check.proofs.Bytes.{IsRemainder-byte}
+use Rattle.message_check.proofs.Checks.{check_of-remainder}
 use Rattle.message_check.proofs.Dividends.{IsRemainder-push, IsCheck-not}
 use Rattle.message_check.proofs.Division.{IsRemainder-low}
 use Rattle.message_check.proofs.fast.check_fast.Goals as goal
@@ -24,5 +25,12 @@ loop-byte-preserved c =
     (IsRemainder-byte r b c.remainder_of.result c.loop-byte.invariant.lower fits c.remainder_of.ensures))
 
 pub returns : goal.returns
-returns c = IsCheck-not c.args.bytes.now c.loop-byte.remainder
-    (subst (λ bytes. IsRemainder 32 divisor (dividend bytes) c.loop-byte.remainder) (take_all c.loop-byte.byte-index c.args.bytes.now c.loop-byte-test.false) c.loop-byte.invariant)
+returns c =
+    let bytes = c.args.bytes.now in
+    let r = c.loop-byte.remainder in
+    let whole = take_all c.loop-byte.byte-index bytes c.loop-byte-test.false in
+    let all : IsRemainder 32 divisor (dividend bytes) r = subst (λ xs. IsRemainder 32 divisor (dividend xs) r) whole c.loop-byte.invariant in
+    record {
+      remainder = IsCheck-not bytes r all;
+      value = check_of-remainder bytes r (λ i. omega (arith, c.type_inv.bytes i)) all;
+    }
