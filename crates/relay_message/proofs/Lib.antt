@@ -1,0 +1,5 @@
+pub mod Decoded
+pub mod Hunting
+pub mod Kept
+pub mod Places
+pub mod Spelled
