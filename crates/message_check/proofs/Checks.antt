@@ -23,6 +23,10 @@ dividend-lt bytes h =
 ones-twice : (r : ℕ) → bit_xor (bit_xor r ones) ones ≡ r
 ones-twice r = xor_comm (bit_xor r ones) ones ∙ ap (bit_xor ones) (xor_comm r ones) ∙ xor_cancel ones r
 
+-- a check has 32 bits
+pub IsCheck-lt : (bytes : List ℕ) (check : ℕ) → IsCheck bytes check → check < 2 ^ 32
+IsCheck-lt bytes check p = subst (λ n. n < 2 ^ 32) (ones-twice check) (xor_lt 32 (bit_xor check ones) ones p.lower (omega arith))
+
 -- the relation holds of the function
 pub check_of-is : (bytes : List ℕ) → AreBytes bytes → IsCheck bytes (check_of bytes)
 unfolding check_of

@@ -1,5 +1,6 @@
 -- Check: the remainder of a message. (CRC-32/BZIP2.)
-use Rattle.std.specs.Prelude.{ℕ, ◌+◌, ◌-◌, ◌*◌, ◌^◌, ◌<◌, List, length, fold, bit_xor}
+use Rattle.std.specs.Prelude.{◌≡◌, ℕ, ◌+◌, ◌-◌, ◌*◌, ◌^◌, ◌<◌, List, ◌++◌, length, fold, bit_xor}
+use Rattle.std.specs.Int.{bytes_high_first}
 use Rattle.std.specs.List.{AllByRecursion}
 use Rattle.message_check.specs.Polynomials.{IsRemainder, remainder}
 
@@ -30,3 +31,10 @@ check_of bytes = bit_xor (remainder 32 divisor (8 * length bytes) (dividend byte
 -- numbers that are bytes
 abbrev pub AreBytes : List ℕ → Type 0
 AreBytes bytes = AllByRecursion (λ byte. byte < 256) bytes
+
+-- bytes that end in the four bytes of the check of those before, the highest first
+pub record EndsInCheck (bytes : List ℕ) : Type 0 where
+  pub front : List ℕ
+  pub check : ℕ
+  pub is : bytes ≡ front ++ bytes_high_first 4 check
+  pub checked : IsCheck front check
