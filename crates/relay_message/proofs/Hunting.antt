@@ -84,8 +84,8 @@ first-more r (y ∷ xs) x e = ap (λ o. option_or o (Some x)) e
 pub hunting-refused : {M F : Type 0} (layout : Layout M F) (bytes : List ℕ) (place : ℕ) (m : Option M) (r : Option F) (fault : F)
     → place < length bytes → place + layout.size ≤ length bytes → layout.read (take layout.size (drop place bytes)) ≡ Some (Err fault) → Hunting layout bytes place m r
     → Hunting layout bytes (place + 1) m (option_or r (Some fault))
-hunting-refused layout bytes place m r fault lt whole e h =
-    let one = Err fault ∷ [] in
+hunting-refused {M = M} {F = F} layout bytes place m r fault lt whole e h =
+    let one : List (Result M F) = Err fault ∷ [] in
     let read = ap (λ xs. layout.read (take layout.size xs)) (sym (drop-cons bytes place 0 lt)) ∙ e in
     record {
       within = omega arith;
@@ -110,8 +110,8 @@ none-before (Some x) h = absurd (h refl)
 pub hunting-message : {M F : Type 0} (layout : Layout M F) (bytes : List ℕ) (place : ℕ) (m : Option M) (r : Option F) (message : M)
     → 0 < layout.size → length bytes < layout.size + layout.size → place + layout.size ≤ length bytes → layout.read (take layout.size (drop place bytes)) ≡ Some (Ok message)
     → Hunting layout bytes place m r → Hunting layout bytes (place + layout.size) (Some message) r
-hunting-message layout bytes place m r message some few whole e h =
-    let one = Ok message ∷ [] in
+hunting-message {M = M} {F = F} layout bytes place m r message some few whole e h =
+    let one : List (Result M F) = Ok message ∷ [] in
     let none = none-before m (λ some. omega (arith, h.behind some)) in
     record {
       within = whole;

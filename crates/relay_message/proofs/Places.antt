@@ -24,7 +24,7 @@ front-ends [] (suc count) h = refl
 front-ends (byte ∷ bytes) (suc count) h = ap (option_map (λ bytes. byte ∷ bytes)) (front-ends bytes count (omega arith))
 
 -- or that meets a gap
-front-gap : (bytes : List ℕ) (count : ℕ) (more : List (Option ℕ)) → length bytes < count → front count (cells bytes ++ (None ∷ more)) ≡ None
+pub front-gap : (bytes : List ℕ) (count : ℕ) (more : List (Option ℕ)) → length bytes < count → front count (cells bytes ++ (None ∷ more)) ≡ None
 unfolding front
 front-gap bytes zero more h = absurd (omega arith)
 front-gap [] (suc count) more h = refl
@@ -37,7 +37,7 @@ unfolding told_behind
 told-first layout cell line test e = ap (λ t. option_to_list t ++ told_behind layout line (covered layout.size t)) e
 
 -- places inside a message are passed over
-told_behind-skip : {M F : Type 0} (layout : Layout M F) (xs line : List (Option ℕ)) → told_behind layout (xs ++ line) (length xs) ≡ told layout line
+pub told_behind-skip : {M F : Type 0} (layout : Layout M F) (xs line : List (Option ℕ)) → told_behind layout (xs ++ line) (length xs) ≡ told layout line
 unfolding told_behind
 told_behind-skip layout [] line = refl
 told_behind-skip layout (x ∷ xs) line = told_behind-skip layout xs line
@@ -101,7 +101,7 @@ told-message layout (byte ∷ bytes) more message some h e =
     told-whole layout byte bytes more (Some (Ok message)) h e ∙ ap (λ rest. Ok message ∷ rest) behind
 
 -- an option is nothing or something
-seen : {A : Type 0} (o : Option A) → (o ≡ None) ⊎ ((x : A) × (o ≡ Some x))
+pub seen : {A : Type 0} (o : Option A) → (o ≡ None) ⊎ ((x : A) × (o ≡ Some x))
 seen None = inl refl
 seen (Some x) = inr (x, refl)
 
@@ -119,73 +119,3 @@ told-other layout byte line some none =
     (λ short. ap (λ o. read (joined o)) short)
     (λ whole. ap (λ o. read (joined o)) whole.1 ∙ none whole.0)
     (seen (front inside line)))
-
--- nothing is made of nothing alone
-unmapped : {A B : Type 0} (f : A → B) (o : Option A) → option_map f o ≡ None → o ≡ None
-unmapped f None e = refl
-unmapped f (Some x) e = absurd (cc)
-
--- the first bytes of a line are not there in a longer one either, or the line ends before them
-longer-none : (count : ℕ) (line : List (Option ℕ)) → front count line ≡ None
-    → ((more : List (Option ℕ)) → front count (line ++ more) ≡ None) ⊎ ((bytes : List ℕ) × (line ≡ cells bytes) × (length bytes < count))
-unfolding front
-longer-none zero line e = absurd (cc)
-longer-none (suc count) [] e = inr ([], refl, omega arith)
-longer-none (suc count) (None ∷ line) e = inl (λ more. refl)
-longer-none (suc count) (Some byte ∷ line) e =
-    ⊎_elim
-    (λ gap. inl (λ more. ap (option_map (λ bytes. byte ∷ bytes)) (gap more)))
-    (λ ends. inr (byte ∷ ends.0, ap (λ xs. Some byte ∷ xs) ends.1, omega (arith, ends.2)))
-    (longer-none count line (unmapped (λ bytes. byte ∷ bytes) (front count line) e))
-
--- and where they are, they stay
-longer-some : (count : ℕ) (line more : List (Option ℕ)) (bytes : List ℕ) → front count line ≡ Some bytes → front count (line ++ more) ≡ Some bytes
-unfolding front
-longer-some zero line more bytes e = e
-longer-some (suc count) [] more bytes e = absurd (cc)
-longer-some (suc count) (None ∷ line) more bytes e = absurd (cc)
-longer-some (suc count) (Some byte ∷ line) more bytes e =
-    let joined = option_map (λ bs. byte ∷ bs) in
-    ⊎_elim
-    (λ none. let made : joined (front count line) ≡ None = ap joined none in absurd (cc))
-    (λ some. ap joined (longer-some count line more some.0 some.1 ∙ sym some.1) ∙ e)
-    (seen (front count line))
-
--- so a first place that tells the same has the rest behind it
-longer-first : {M F : Type 0} (layout : Layout M F) (cell : Option ℕ) (line more : List (Option ℕ)) (test : Option (Result M F)) (rest : List (Result M F))
-    → told_at layout (cell ∷ line) ≡ test → told_at layout (cell ∷ (line ++ more)) ≡ test
-    → told_behind layout (line ++ more) (covered layout.size test) ≡ told_behind layout line (covered layout.size test) ++ rest
-    → told layout (cell ∷ (line ++ more)) ≡ told layout (cell ∷ line) ++ rest
-longer-first layout cell line more test rest short long next =
-    told-first layout cell (line ++ more) test long
-    ∙ ap (λ xs. option_to_list test ++ xs) next
-    ∙ sym (append_assoc (option_to_list test) (told_behind layout line (covered layout.size test)) rest)
-    ∙ ap (λ xs. xs ++ rest) (sym (told-first layout cell line test short))
-
--- a longer line has what the places of the shorter one tell first
-told_behind-longer : {M F : Type 0} (layout : Layout M F) (line more : List (Option ℕ)) (skipped : ℕ)
-    → (rest : List (Result M F)) × (told_behind layout (line ++ more) skipped ≡ told_behind layout line skipped ++ rest)
-unfolding told_behind
-told_behind-longer layout [] more skipped = (told_behind layout more skipped, refl)
-told_behind-longer layout (cell ∷ line) more (suc skipped) = told_behind-longer layout line more skipped
-told_behind-longer layout (cell ∷ line) more zero =
-    let read = option_and_then layout.read in
-    ⊎_elim
-    (λ none. ⊎_elim
-    (λ gap.
-    let next = told_behind-longer layout line more 0 in
-    (next.0, longer-first layout cell line more None next.0 (ap read none) (ap read (gap more)) next.1))
-    (λ ends.
-    let all = told layout (cell ∷ (line ++ more)) in
-    (all, ap (λ xs. xs ++ all) (sym (ap (told layout) ends.1 ∙ told-ends layout ends.0 ends.2))))
-    (longer-none layout.size (cell ∷ line) none))
-    (λ some.
-    let next = told_behind-longer layout line more (covered layout.size (layout.read some.0)) in
-    (next.0, longer-first layout cell line more (layout.read some.0) next.0 (ap read some.1) (ap read (longer-some layout.size (cell ∷ line) more some.0 some.1)) next.1))
-    (seen (front layout.size (cell ∷ line)))
-
--- in the words of the definition
-pub told-longer : {M F : Type 0} (layout : Layout M F) (line more : List (Option ℕ)) → told layout (line ++ more) ≡ told layout line ++ added (told layout) line more
-told-longer layout line more =
-    let rest = told_behind-longer layout line more 0 in
-    rest.1 ∙ ap (λ xs. told layout line ++ xs) (sym (ap (drop (length (told layout line))) rest.1 ∙ drop-append_seam (told layout line) rest.0))

@@ -6,6 +6,7 @@ mod encoding;
 mod fault;
 mod format;
 mod hunter;
+pub mod laws;
 mod whole;
 
 pub use decoding::decode;
