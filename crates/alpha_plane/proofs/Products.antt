@@ -1,39 +1,9 @@
--- Equations between sums and products of signed numbers: each number is read as a difference of naturals, and the naturals
--- are left to `omega`.
-use Rattle.std.proofs.Common.{◌≡◌, ◌∙◌, sym, ap, ℕ, ◌+◌, ◌*◌, ℤ, pos, negsuc, ◌+ℤ◌, ◌*ℤ◌, neg_ℤ, unsigned_abs, refl, arith}
-use borrow.Author.Differences.{up, down, same_in, sum_is_lem, neg_is, product_is}
+-- Products of points: their norms, dot products and cross products.
+use Rattle.std.proofs.Common.{◌≡◌, ◌∙◌, sym, ap, ℕ, ◌*◌, ℤ, pos, negsuc, ◌*ℤ◌, neg_ℤ, unsigned_abs, refl, arith}
 use Rattle.phasor.specs.Point.{Point}
+use Rattle.phasor.proofs.Differences.{number, sum, negation, times, equal}
 use Rattle.alpha_plane.specs.Inside.{square, norm, dot, cross}
 use Rattle.alpha_plane.specs.Product.{product}
-
--- the number z is u - d
-record IsDifference (z : ℤ) (u d : ℕ) : Type 0 where
-  same : up z + d ≡ down z + u
-
--- a number by its own two parts
-number : (z : ℤ) → IsDifference z (up z) (down z)
-number z = record { same = omega arith }
-
--- a sum of two differences is one
-sum : {a b : ℤ} {u d v e : ℕ} → IsDifference a u d → IsDifference b v e → IsDifference (a +ℤ b) (u + v) (d + e)
-sum {a} {b} p q = record { same = omega (arith, p.same, q.same, sum_is_lem a b) }
-
--- and so is the negation of one
-negation : {a : ℤ} {u d : ℕ} → IsDifference a u d → IsDifference (neg_ℤ a) d u
-negation {a} p = record { same = omega (arith, p.same, neg_is a) }
-
--- and the product of two
-times : {a b : ℤ} {u d v e : ℕ} → IsDifference a u d → IsDifference b v e → IsDifference (a *ℤ b) (u * v + d * e) (u * e + d * v)
-times {a} {b} {u} {d} {v} {e} p q =
-    let by_v = ap (λ x. x * v) p.same in
-    let by_e = ap (λ x. x * e) p.same in
-    let up_by = ap (λ x. up a * x) q.same in
-    let down_by = ap (λ x. down a * x) q.same in
-    record { same = omega (arith, product_is a b, by_v, by_e, up_by, down_by) }
-
--- two numbers are equal where their differences are
-equal : {a b : ℤ} {u d v e : ℕ} → IsDifference a u d → IsDifference b v e → u + e ≡ v + d → a ≡ b
-equal {a} {b} p q h = same_in a b (omega (arith, p.same, q.same))
 
 -- the square of a signed number is that of its size
 square_of_size : (a : ℤ) → a *ℤ a ≡ pos (square (unsigned_abs a))

@@ -1,8 +1,12 @@
 pub mod Cycles
+pub mod Differences
 pub mod Entries
+pub mod Linear
 pub mod Lookups
+pub mod Offsets
 pub mod Points
 pub mod Sizes
 pub mod Steps
+pub mod Threes
 pub mod Values
 pub mod Windows

@@ -1,7 +1,9 @@
 -- Look-ups of sets by their numbers: what one set more changes, and how the sets below a number grow with their count.
-use Rattle.std.proofs.Common.{◌≡◌, ℕ, zero, suc, ◌≤◌, ◌==◌, List, [], ◌∷◌, ◌++◌, length, Option, Some, None, refl, ap, sym, arith, ne_eqb, eq-eqb}
+use Rattle.std.proofs.Common.{◌≡◌, ℕ, zero, suc, ◌+◌, ◌<◌, ◌≤◌, ◌==◌, List, [], ◌∷◌, ◌++◌, length, Option, Some, None, IfSome, refl, ap, sym, arith, ne_eqb, eq-eqb}
+use Rattle.std.specs.List.{All}
 use Rattle.std.proofs.lemmas.Bool.{cond-true}
 use Rattle.std.proofs.lemmas.List.{length_push, nil_from_length}
+use Rattle.std.proofs.lemmas.List.Elements.{All-push}
 use Rattle.std.proofs.lemmas.List.Folds.{find-append}
 use Rattle.std.proofs.lemmas.List.Recursion.{found_push_other}
 use Rattle.ld_base.specs.declared.phases.SampleSet.{SampleSet}
@@ -74,3 +76,20 @@ sets_before-none s (suc count) zero stop le none = absurd (omega arith)
 sets_before-none s (suc count) (suc more) zero le none = refl
 sets_before-none s (suc count) (suc more) (suc stop) le none =
     followed_by-none _ _ (set_numbered stop s) (sets_before-none s count more stop (omega arith)) none
+
+-- what holds of each set that is found, holds of all of a run
+pub All-sets_before : (P : SampleSet → Type 0) (judged : List SampleSet) (count stop : ℕ) (sets : List SampleSet)
+    → ((k : ℕ) → stop ≤ k + count → k < stop → IfSome (set_numbered k judged) P) → sets_before judged count stop ≡ Some sets → All P sets
+All-sets_before P judged zero stop sets found e = let none : sets ≡ [] = cc in rw none (λ k d within. absurd (omega arith))
+All-sets_before P judged (suc count) zero sets found e = cc
+All-sets_before P judged (suc count) (suc stop) sets found e =
+    by (sets_before judged count stop) (set_numbered stop judged) e (found stop (omega arith) (omega arith))
+    (λ before is. All-sets_before P judged count stop before (λ k from below. found k (omega arith) (omega arith)) is)
+  where
+    by : (before : Option (List SampleSet)) (next : Option SampleSet) → followed_by before next ≡ Some sets → IfSome next P
+        → ((all : List SampleSet) → before ≡ Some all → All P all) → All P sets
+    by None next e holds rest = cc
+    by (Some before) None e holds rest = cc
+    by (Some before) (Some set) e holds rest =
+        let same : before ++ set ∷ [] ≡ sets = cc in
+        rw (← same) (All-push P before set (rest before refl) holds)

@@ -1,5 +1,5 @@
 -- How large sums of 16-bit values can be.
-use Rattle.std.specs.Prelude.{◌≡◌, ◌≤◌, ◌^◌, ◌*◌, ◌+◌, ◌%◌, ℕ, zero, suc, ℤ, unsigned_abs, List, [], ◌∷◌, length, map, fold, slice_index_or}
+use Rattle.std.specs.Prelude.{◌≡◌, ◌≤◌, ◌^◌, ◌*◌, ◌+◌, ◌%◌, ℕ, zero, suc, ℤ, unsigned_abs, List, [], ◌∷◌, length, fold, slice_index_or}
 use Rattle.std.specs.List.{All}
 use Rattle.std.proofs.Common.{arith, subst, sym}
 use Rattle.std.proofs.lemmas.Int.{ints}
@@ -10,7 +10,7 @@ use Rattle.ld_base.specs.declared.phases.SampleSet.{SampleSet}
 use Rattle.phasor.specs.Factors.{weighed}
 use Rattle.phasor.specs.Point.{Point, IsWithin, origin, plus}
 use Rattle.phasor.specs.Sizes.{AreWithin, sum_at, IsSample, IsOfSamples}
-use Rattle.phasor.specs.Sum.{current, no_current, sum_of, sums_of}
+use Rattle.phasor.specs.Sum.{of_three, current, no_current, sum_of, sums_of}
 use Rattle.phasor.proofs.Entries.{cosine_small, sine_small}
 use Rattle.phasor.proofs.Values.{product_small}
 
@@ -46,7 +46,7 @@ IsWithin-sum_of c value sets few all =
 
 -- what holds of no current and of the three phases, holds at each place
 at_phase : (P : Point → Type 0) (sum : ℕ → Point) → P origin → ((phase : ℕ) → P (sum phase)) → (phase : ℕ)
-    → P (slice_index_or (map sum (0 ∷ 1 ∷ 2 ∷ [])) phase origin)
+    → P (slice_index_or (of_three sum) phase origin)
 at_phase P sum none all zero = all 0
 at_phase P sum none all (suc zero) = all 1
 at_phase P sum none all (suc (suc zero)) = all 2
@@ -54,7 +54,7 @@ at_phase P sum none all (suc (suc (suc n))) = none
 
 -- the same by station and phase
 at_place : (P : Point → Type 0) (sum : ℕ → ℕ → Point) → P origin → ((station phase : ℕ) → P (sum station phase)) → (station phase : ℕ)
-    → P (sum_at (map (λ s. map (sum s) (0 ∷ 1 ∷ 2 ∷ [])) (0 ∷ 1 ∷ 2 ∷ [])) station phase)
+    → P (sum_at (of_three (λ s. of_three (sum s))) station phase)
 at_place P sum none all zero phase = at_phase P (sum 0) none (all 0) phase
 at_place P sum none all (suc zero) phase = at_phase P (sum 1) none (all 1) phase
 at_place P sum none all (suc (suc zero)) phase = at_phase P (sum 2) none (all 2) phase

@@ -1,6 +1,6 @@
 -- The phasor tables: 16384 times the cosine and the sine of each sample's place in its cycle, rounded.
-use Rattle.std.specs.Prelude.{ℕ, ◌+◌, ◌-◌, ◌/◌, ◌%◌, ℤ, pos, neg_ℤ, ◌*ℤ◌, nat_le, ◌==◌, if◌then◌else◌, List, [], ◌∷◌, slice_index_or}
-use Rattle.phasor.specs.Point.{Point}
+use Rattle.std.specs.Prelude.{ℕ, ◌+◌, ◌-◌, ◌/◌, ◌%◌, ℤ, pos, neg_ℤ, nat_le, ◌==◌, if◌then◌else◌, List, [], ◌∷◌, slice_index_or}
+use Rattle.phasor.specs.Point.{Point, times}
 
 -- the cosines of the first quarter turn, its end included
 abbrev pub quarter : ℕ → List ℤ
@@ -23,6 +23,10 @@ cosine c k = if nat_le k (c / 2) then half c k else half c (c - k)
 unfoldable pub sine : ℕ → ℕ → ℤ
 sine c k = cosine c ((k + c - c / 4) % c)
 
--- what the value of set k adds to a sum: the value times (C[k mod c], S[k mod c])
+-- the factor of set k: (C[k mod c], S[k mod c])
+abbrev pub factor : ℕ → ℕ → Point
+factor c k = record { re = cosine c (k % c); im = sine c (k % c) }
+
+-- what the value of set k adds to a sum: the value times the factor
 abbrev pub weighed : ℕ → ℕ → ℤ → Point
-weighed c k value = record { re = value *ℤ cosine c (k % c); im = value *ℤ sine c (k % c) }
+weighed c k value = times value (factor c k)

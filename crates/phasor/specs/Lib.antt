@@ -1,4 +1,5 @@
 pub mod Factors
+pub mod Offset
 pub mod Point
 pub mod Sizes
 pub mod Sum

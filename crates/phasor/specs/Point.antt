@@ -1,5 +1,5 @@
 -- Points of the complex plane in whole numbers, and their sizes.
-use Rattle.std.specs.Prelude.{ℕ, ◌^◌, ◌≤◌, ℤ, pos, ◌+ℤ◌, ◌-ℤ◌, unsigned_abs, List, [], ◌∷◌}
+use Rattle.std.specs.Prelude.{ℕ, ◌^◌, ◌≤◌, ℤ, pos, ◌+ℤ◌, ◌-ℤ◌, ◌*ℤ◌, unsigned_abs, List, [], ◌∷◌}
 
 pub record Point : Type 0 where
   pub re : ℤ
@@ -13,6 +13,10 @@ plus p q = record { re = p.re +ℤ q.re; im = p.im +ℤ q.im }
 
 abbrev pub minus : Point → Point → Point
 minus p q = record { re = p.re -ℤ q.re; im = p.im -ℤ q.im }
+
+-- a point as many times
+abbrev pub times : ℤ → Point → Point
+times value p = record { re = value *ℤ p.re; im = value *ℤ p.im }
 
 -- the sum of points
 abbrev pub total : List Point → Point

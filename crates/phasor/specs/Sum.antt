@@ -22,6 +22,10 @@ sets_before judged zero stop = Some []
 sets_before judged (suc count) zero = None
 sets_before judged (suc count) (suc stop) = followed_by (sets_before judged count stop) (set_numbered stop judged)
 
+-- a value for each of three, stations or phases, counted from 0
+abbrev pub of_three : {A : Type 0} → (ℕ → A) → List A
+of_three value = map value (0 ∷ 1 ∷ 2 ∷ [])
+
 -- phase a is 0, b is 1 and c is 2
 abbrev pub phase_of : ℕ → Phases → ℤ
 phase_of zero p = p.a
@@ -42,7 +46,7 @@ sum_of c value sets = fold (λ sum set. plus sum (weighed c set.number (value se
 
 -- the sums of these sets, by station and then by phase
 abbrev pub sums_of : ℕ → List SampleSet → List (List Point)
-sums_of c sets = map (λ station. map (λ phase. sum_of c (current station phase) sets) (0 ∷ 1 ∷ 2 ∷ [])) (0 ∷ 1 ∷ 2 ∷ [])
+sums_of c sets = of_three (λ station. of_three (λ phase. sum_of c (current station phase) sets))
 
 -- the sums over the c numbers below `stop`, where all their sets were judged
 abbrev pub sums_before : ℕ → List SampleSet → ℕ → Option (List (List Point))

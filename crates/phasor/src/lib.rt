@@ -2,6 +2,7 @@
 #![tactic(auto)]
 
 mod factors;
+pub mod laws;
 mod phasor;
 mod sums;
 mod window;

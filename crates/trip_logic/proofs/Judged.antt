@@ -1,16 +1,17 @@
 -- What a trip rule keeps and answers after one set more.
-use Rattle.std.specs.Prelude.{ℕ, zero, suc, ◌≡◌, ◌+◌, ◌<◌, ◌≤◌, Bool, true, false, if◌then◌else◌, List, [], ◌∷◌, ◌++◌, Option, Some, None, is_none, slice_index, slice_index_or}
+use Rattle.std.specs.Prelude.{ℕ, suc, ◌≡◌, ◌+◌, ◌<◌, ◌≤◌, Bool, true, false, if◌then◌else◌, List, [], ◌∷◌, ◌++◌, Option, Some, None, is_none, slice_index}
 use Rattle.std.proofs.Common.{refl, sym, arith}
 use Rattle.std.proofs.lemmas.Bool.Decides.{nat_tests}
 use Rattle.ld_base.specs.declared.phases.SampleSet.{SampleSet}
 use Rattle.ld_base.specs.declared.fields.Fields.{Fields}
 use Rattle.ld_base.specs.Settings.{is_cycle, AreInRange}
 use Rattle.phasor.specs.Point.{Point}
-use Rattle.phasor.specs.Sum.{sums_before, Sums}
+use Rattle.phasor.specs.Sum.{of_three, sums_before, Sums}
 use Rattle.phasor.specs.Window as window
+use Rattle.phasor.proofs.Threes.{of_three_at}
 use Rattle.trip_logic.specs.declared.verdict.Verdict.TheVariants.{Waiting}
 use Rattle.trip_logic.specs.Progress.{Progress, IsRun, StandsFor}
-use Rattle.trip_logic.specs.Steps.{by_phase, phases_outside, is_known_outside, runs_after, verdict_of, verdicts_of}
+use Rattle.trip_logic.specs.Steps.{phases_outside, is_known_outside, runs_after, verdict_of, verdicts_of}
 use Rattle.trip_logic.specs.TripAt.{is_outside, are_outside, verdict, verdicts}
 use Rattle.trip_logic.proofs.Runs.{IsRun-push, verdict_by_run}
 
@@ -18,22 +19,15 @@ use Rattle.trip_logic.proofs.Runs.{IsRun-push, verdict_by_run}
 cycle_long : (c : ℕ) → is_cycle c ≡ true → 1 < c
 cycle_long c h = grind (arith, nat_tests)
 
--- the value of a phase among those of all
-by_phase_at : {A : Type 0} (value : ℕ → A) (phase : ℕ) (d : A) → phase < 3 → slice_index_or (by_phase value) phase d ≡ value phase
-by_phase_at value zero d within = refl
-by_phase_at value (suc zero) d within = refl
-by_phase_at value (suc (suc zero)) d within = refl
-by_phase_at value (suc (suc (suc phase))) d within = absurd (omega arith)
-
 -- values that are equal phase by phase
-by_phase_same : {A : Type 0} (one other : ℕ → A) → ((phase : ℕ) → phase < 3 → one phase ≡ other phase) → by_phase one ≡ by_phase other
-by_phase_same one other same = rw (same 0 (omega arith), same 1 (omega arith), same 2 (omega arith)) refl
+of_three_same : {A : Type 0} (one other : ℕ → A) → ((phase : ℕ) → phase < 3 → one phase ≡ other phase) → of_three one ≡ of_three other
+of_three_same one other same = rw (same 0 (omega arith), same 1 (omega arith), same 2 (omega arith)) refl
 
 -- who is known to be outside by the sums
 is_known_outside-phases : (f : Fields) (sums : Option (List (List Point))) (phase : ℕ) → phase < 3
     → is_known_outside (phases_outside f sums) phase ≡ are_outside f phase sums
 is_known_outside-phases f None phase within = refl
-is_known_outside-phases f (Some sums) phase within = by_phase_at (λ phase. is_outside f phase sums) phase false within
+is_known_outside-phases f (Some sums) phase within = of_three_at (λ phase. is_outside f phase sums) phase false within
 
 -- it is known where there are sums
 is_none-phases : (f : Fields) (sums : Option (List (List Point))) → is_none (phases_outside f sums) ≡ is_none sums
@@ -55,7 +49,7 @@ module _ (old new : Progress) (judged : List SampleSet) (set : SampleSet) (sums 
   runs_now : (phase : ℕ) → phase < 3 → IsRun old.settings (judged ++ set ∷ []) (suc set.number) phase (slice_index new.runs phase)
   runs_now phase within =
       let long = cycle_long old.settings.cycle in_range.cycle in
-      rw (runs, by_phase_at {A = ℕ} _ phase 0 within, outside_is, is_known_outside-phases old.settings sums phase within, sums_now)
+      rw (runs, of_three_at {A = ℕ} _ phase 0 within, outside_is, is_known_outside-phases old.settings sums phase within, sums_now)
       (IsRun-push old.settings judged set old.window phase _ stands.window long later (stands.runs phase within))
 
   -- the rule stands for the sets with this one
@@ -66,7 +60,7 @@ module _ (old new : Progress) (judged : List SampleSet) (set : SampleSet) (sums 
 
   -- the verdicts by the runs are those at the set
   verdicts_now : verdicts_of new.runs outside old.settings.count ≡ verdicts old.settings (judged ++ set ∷ []) set.number
-  verdicts_now = by_phase_same _ _ each
+  verdicts_now = of_three_same _ _ each
     where
       each : (phase : ℕ) → phase < 3 → (if is_none outside then Waiting else verdict_of (slice_index new.runs phase) old.settings.count)
           ≡ verdict old.settings (judged ++ set ∷ []) set.number phase

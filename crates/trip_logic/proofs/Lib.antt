@@ -3,3 +3,4 @@ pub mod Judged
 pub mod Outs
 pub mod Regions
 pub mod Runs
+pub mod Through

@@ -1,9 +1,9 @@
 -- Out, TripAt and the verdict, over the sets judged. (Trip rule of this project's own.)
-use Rattle.std.specs.Prelude.{ℕ, zero, suc, Bool, true, false, ◌&&◌, if◌then◌else◌, List, [], ◌∷◌, map, take, Option, Some, None, is_none, slice_index_or}
+use Rattle.std.specs.Prelude.{ℕ, zero, suc, Bool, true, false, ◌&&◌, if◌then◌else◌, List, map, take, Option, Some, None, is_none, slice_index_or}
 use Rattle.ld_base.specs.declared.fields.Fields.{Fields}
 use Rattle.ld_base.specs.declared.phases.SampleSet.{SampleSet}
 use Rattle.phasor.specs.Point.{Point, origin}
-use Rattle.phasor.specs.Sum.{Sums}
+use Rattle.phasor.specs.Sum.{of_three, Sums}
 use Rattle.alpha_plane.specs.Inside.{Sector}
 use Rattle.alpha_plane.specs.Outside.{OutsideAll}
 use Rattle.trip_logic.specs.declared.verdict.Verdict.{Verdict}
@@ -50,4 +50,4 @@ verdict f judged n phase =
 
 -- the verdicts at set n of the phases a, b and c
 abbrev pub verdicts : Fields → List SampleSet → ℕ → List Verdict
-verdicts f judged n = map (verdict f judged n) (0 ∷ 1 ∷ 2 ∷ [])
+verdicts f judged n = of_three (verdict f judged n)

@@ -1,6 +1,7 @@
 //! The trip rule: one verdict a set and phase.
 #![tactic(auto)]
 
+pub mod laws;
 mod trip;
 mod verdict;
 
