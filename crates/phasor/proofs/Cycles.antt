@@ -1,5 +1,5 @@
 -- The counts of samples that a cycle may have.
-use Rattle.std.specs.Prelude.{◌≡◌, ◌≢◌, ◌<◌, ℕ, true}
+use Rattle.std.specs.Prelude.{◌≡◌, ◌≢◌, ◌<◌, ◌≤◌, ℕ, true}
 use Rattle.std.proofs.Common.{arith, subst, sym, inl, inr}
 use Rattle.std.proofs.lemmas.Bool.{cases_eq}
 use Rattle.std.proofs.lemmas.Bool.Decides.{nat_tests}
@@ -8,6 +8,10 @@ use Rattle.ld_base.specs.Settings.{is_cycle}
 -- a cycle has a sample
 pub cycle_positive : (c : ℕ) → is_cycle c ≡ true → 0 < c
 cycle_positive c h = grind (arith, nat_tests)
+
+-- a cycle has at most 20 samples
+pub cycle_short : (c : ℕ) → is_cycle c ≡ true → c ≤ 20
+cycle_short c h = grind (arith, nat_tests)
 
 -- the last of the five counts
 pub cycle_last : (c : ℕ) → is_cycle c ≡ true → c ≢ 4 → c ≢ 8 → c ≢ 12 → c ≢ 16 → c ≡ 20

@@ -1,16 +1,16 @@
 -- The entries of the phasor tables, and their sizes.
 use Rattle.std.specs.Prelude.{◌≡◌, ◌≤◌, ◌<◌, ◌^◌, ◌-◌, ◌+◌, ◌/◌, ◌%◌, ◌==◌, nat_le, Bool, ℕ, zero, suc, ℤ, pos, neg_ℤ, unsigned_abs, List, [], ◌∷◌, length, slice_index_or, true}
 use Rattle.std.specs.List.{list_all}
-use Rattle.std.proofs.Common.{arith, refl}
+use Rattle.std.proofs.Common.{arith, refl, to_z, of_z, w64, FitsSigned}
 use Rattle.std.proofs.lemmas.Bool.{cond_both, and_parts, leb-true}
-use Rattle.std.proofs.lemmas.Int.{ints}
+use Rattle.std.proofs.lemmas.Int.{ints, to_z-of_z}
 use Rattle.std.proofs.lemmas.List.FromFn.{length-map-range_with_len, get_or-map-range_with_len}
-use Rattle.phasor.specs.declared.factors.Factor.{Factor}
-use Rattle.ld_base.specs.Settings.{is_cycle}
-use Rattle.phasor.specs.Factors.{quarter, half, cosine, sine}
+use Rattle.phasor.specs.Factors.{quarter, half, cosine, sine, factor}
 use Rattle.phasor.specs.Point.{IsWithin}
-use Rattle.phasor.specs.Tables.{factors_of, point_of}
+use Rattle.phasor.specs.Sizes.{factor_bits}
+use Rattle.phasor.specs.Tables.{cosines_of}
 use Rattle.phasor.proofs.Cycles.{cycle_positive}
+use Rattle.ld_base.specs.Settings.{is_cycle}
 
 -- at most 16384 either way
 abbrev IsSmall : ℤ → Type 0
@@ -52,29 +52,36 @@ pub sine_small : (c k : ℕ) → unsigned_abs (sine c k) ≤ 2 ^ 14
 unfolding sine
 sine_small c k = cosine_small c ((k + c - c / 4) % c)
 
+-- a factor lies within 16384
+pub IsWithin-factor : (c k : ℕ) → IsWithin factor_bits (factor c k)
+IsWithin-factor c k = (cosine_small c (k % c), sine_small c (k % c))
+
 -- a table has an entry for each place
-pub length-factors_of : (c : ℕ) → length (factors_of c) ≡ c
-length-factors_of c = length-map-range_with_len _ 0 c
+pub length-cosines_of : (c : ℕ) → length (cosines_of c) ≡ c
+length-cosines_of c = length-map-range_with_len _ 0 c
 
--- the factor of a place
-abbrev pub factor_of : ℕ → ℕ → Factor
-factor_of c k = record { cosine = cosine c k; sine = sine c k }
+-- the cosine of a place is the entry there
+pub get_or-cosines_of : (c k : ℕ) (d : ℤ) → k < c → slice_index_or (cosines_of c) k d ≡ cosine c k
+get_or-cosines_of c k d h = get_or-map-range_with_len (cosine c) 0 c k k d h (omega arith)
 
--- it is the entry there
-pub get_or-factors_of : (c k : ℕ) (d : Factor) → k < c → slice_index_or (factors_of c) k d ≡ factor_of c k
-get_or-factors_of c k d h = get_or-map-range_with_len (factor_of c) 0 c k k d h (omega arith)
+-- a small number of 64 bits is read as it is
+kept : (z : ℤ) → unsigned_abs z ≤ 2 ^ 14 → to_z w64 (of_z w64 z) ≡ z
+kept z small = let fits : FitsSigned w64 z = omega (arith, ints) in to_z-of_z w64 z fits
 
--- no factor is above 16384 either way
-pub IsWithin-factor_of : (c k : ℕ) → IsWithin 14 (point_of (factor_of c k))
-IsWithin-factor_of c k = (cosine_small c k, sine_small c k)
+-- what is read from a table for a number: the cosine of its place, and its sine a quarter turn before
+module _ (c n : ℕ) (cosines : List ℤ) (h : is_cycle c ≡ true) (table : cosines ≡ cosines_of c) where
+  entry : (k : ℕ) → k < c → to_z w64 (of_z w64 (slice_index_or (cosines_of c) k (pos 0))) ≡ cosine c k
+  entry k within = rw (get_or-cosines_of c k (pos 0) within) (kept (cosine c k) (cosine_small c k))
 
--- what a table has for a number, and that it is not above 16384 either way
-module _ (c n : ℕ) (factors : List Factor) (d : Factor) (h : is_cycle c ≡ true) (table : factors ≡ factors_of c) where
-  pub factor_read : slice_index_or factors (n % length factors) d ≡ factor_of c (n % c)
-  factor_read =
+  pub cosine_read : to_z w64 (of_z w64 (slice_index_or cosines (n % length cosines) (pos 0))) ≡ cosine c (n % c)
+  cosine_read =
       let some = cycle_positive c h in
       let within : n % c < c = omega arith in
-      rw (table, length-factors_of c) (get_or-factors_of c (n % c) d within)
+      rw (table, length-cosines_of c) (entry (n % c) within)
 
-  pub IsWithin-read : IsWithin 14 (point_of (slice_index_or factors (n % length factors) d))
-  IsWithin-read = rw factor_read (IsWithin-factor_of c (n % c))
+  pub sine_read : to_z w64 (of_z w64 (slice_index_or cosines ((n % length cosines + length cosines - length cosines / 4) % length cosines) (pos 0))) ≡ sine c (n % c)
+  unfolding sine
+  sine_read =
+      let some = cycle_positive c h in
+      let within : (n % c + c - c / 4) % c < c = omega arith in
+      rw (table, length-cosines_of c) (entry ((n % c + c - c / 4) % c) within)

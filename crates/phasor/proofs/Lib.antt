@@ -1,3 +1,4 @@
+pub mod Pushes
 pub mod Cycles
 pub mod Differences
 pub mod Entries
@@ -5,8 +6,8 @@ pub mod Linear
 pub mod Lookups
 pub mod Offsets
 pub mod Points
+pub mod Rings
 pub mod Sizes
-pub mod Steps
 pub mod Threes
 pub mod Values
 pub mod Windows

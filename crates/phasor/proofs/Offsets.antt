@@ -9,7 +9,7 @@ use Rattle.ld_base.specs.Settings.{is_cycle}
 use Rattle.ld_base.specs.declared.phases.SampleSet.{SampleSet}
 use Rattle.phasor.specs.Factors.{cosine, sine, factor, weighed}
 use Rattle.phasor.specs.Offset.{value_at, IsMoved, Sum}
-use Rattle.phasor.specs.Point.{Point, origin, plus, times}
+use Rattle.phasor.specs.Point.{Point, origin, plus, scaled}
 use Rattle.phasor.specs.Sizes.{sum_at}
 use Rattle.phasor.specs.Sum.{set_numbered, followed_by, sets_before, of_three, current, sum_of, sums_of}
 use Rattle.phasor.proofs.Cycles.{cycle_cases}
@@ -88,7 +88,7 @@ sum_before-suc c value judged count stop = by (sets_before judged count stop) (s
 
 -- each value of a sum that is moved by a constant takes in its factor as many times
 moved_more : (c stop : ℕ) (constant : ℤ) (p weights : Point) (v : ℤ)
-    → plus (plus p (times constant weights)) (weighed c stop (v +ℤ constant)) ≡ plus (plus p (weighed c stop v)) (times constant (plus weights (factor c stop)))
+    → plus (plus p (scaled constant weights)) (weighed c stop (v +ℤ constant)) ≡ plus (plus p (weighed c stop v)) (scaled constant (plus weights (factor c stop)))
 moved_more c stop constant p weights v = same_point _ _ (part p.re weights.re _) (part p.im weights.im _)
   where
     part : (x w f : ℤ) → (x +ℤ constant *ℤ w) +ℤ (v +ℤ constant) *ℤ f ≡ (x +ℤ v *ℤ f) +ℤ constant *ℤ (w +ℤ f)
@@ -107,7 +107,7 @@ module _ (station phase c : ℕ) (constant : ℤ) (judged moved : List SampleSet
   sum_before-moved : (count stop : ℕ)
       → ((k : ℕ) → stop ≤ k + count → k < stop → value_at station phase moved k ≡ option_map (λ value. value +ℤ constant) (value_at station phase judged k))
       → sum_before c (current station phase) moved count stop
-      ≡ moved_by (times constant (factors_before c count stop)) (sum_before c (current station phase) judged count stop)
+      ≡ moved_by (scaled constant (factors_before c count stop)) (sum_before c (current station phase) judged count stop)
   sum_before-moved zero stop is = ap Some (same_point _ _ (none constant) (none constant))
     where
       none : (k : ℤ) → pos 0 ≡ pos 0 +ℤ k *ℤ pos 0
@@ -118,11 +118,11 @@ module _ (station phase c : ℕ) (constant : ℤ) (judged moved : List SampleSet
       ∙ (λ i. and_more (sum_before-moved count stop (λ k from below. is k (omega arith) (omega arith)) i)
       (option_map (λ v. weighed c stop v) (is stop (omega arith) (omega arith) i)))
       ∙ step (sum_before c (current station phase) judged count stop) (value_at station phase judged stop)
-      ∙ ap (moved_by (times constant (factors_before c (suc count) (suc stop)))) (sym (sum_before-suc c (current station phase) judged count stop))
+      ∙ ap (moved_by (scaled constant (factors_before c (suc count) (suc stop)))) (sym (sum_before-suc c (current station phase) judged count stop))
     where
       step : (p : Option Point) (v : Option ℤ)
-          → and_more (moved_by (times constant (factors_before c count stop)) p) (option_map (λ v. weighed c stop v) (option_map (λ value. value +ℤ constant) v))
-          ≡ moved_by (times constant (factors_before c (suc count) (suc stop))) (and_more p (option_map (λ v. weighed c stop v) v))
+          → and_more (moved_by (scaled constant (factors_before c count stop)) p) (option_map (λ v. weighed c stop v) (option_map (λ value. value +ℤ constant) v))
+          ≡ moved_by (scaled constant (factors_before c (suc count) (suc stop))) (and_more p (option_map (λ v. weighed c stop v) v))
       step None v = refl
       step (Some p) None = refl
       step (Some p) (Some v) = ap Some (moved_more c stop constant p (factors_before c count stop) v)
@@ -143,11 +143,11 @@ sum_before-cycle station phase c constant judged moved n h is = elim (cases_lt (
       let last : suc n ≡ (suc n - c) + c = omega arith in
       let zero_sum : factors_before c c (suc n) ≡ origin = ap (factors_before c c) last ∙ factors_cycle c (suc n - c) ∙ factors_zero c h in
       sum_before-moved station phase c constant judged moved c (suc n) (λ k from below. is k (omega arith) (omega arith))
-      ∙ ap (λ weights. moved_by (times constant weights) (sum_before c (current station phase) judged c (suc n))) zero_sum
+      ∙ ap (λ weights. moved_by (scaled constant weights) (sum_before c (current station phase) judged c (suc n))) zero_sum
       ∙ unmoved (sum_before c (current station phase) judged c (suc n))
 ]
   where
-    unmoved : (sum : Option Point) → moved_by (times constant origin) sum ≡ sum
+    unmoved : (sum : Option Point) → moved_by (scaled constant origin) sum ≡ sum
     unmoved None = refl
     unmoved (Some p) = ap Some (same_point _ _ (rw (*ℤ-zero constant) (omega (arith, ints))) (rw (*ℤ-zero constant) (omega (arith, ints))))
 

@@ -9,7 +9,7 @@ use Rattle.ld_base.specs.declared.phases.Phases.{Phases}
 use Rattle.ld_base.specs.declared.phases.SampleSet.{SampleSet}
 use Rattle.phasor.specs.Factors.{weighed}
 use Rattle.phasor.specs.Point.{Point, IsWithin, origin, plus}
-use Rattle.phasor.specs.Sizes.{AreWithin, sum_at, IsSample, IsOfSamples}
+use Rattle.phasor.specs.Sizes.{AreWithin, sum_at, IsSample, AreSamples, IsOfSamples}
 use Rattle.phasor.specs.Sum.{of_three, current, no_current, sum_of, sums_of}
 use Rattle.phasor.proofs.Entries.{cosine_small, sine_small}
 use Rattle.phasor.proofs.Values.{product_small}
@@ -66,10 +66,6 @@ AreWithin-sums_of c sets few all =
     at_place (IsWithin 34) (λ s p. sum_of c (current s p) sets) (omega arith, omega arith)
     (λ s p. IsWithin-sum_of c (current s p) sets few (λ k d h. all k d h s p))
 
--- a size in bits grows
-pub AreWithin-more : (sums : List (List Point)) → AreWithin 34 sums → AreWithin 35 sums
-AreWithin-more sums h station phase = let at = h station phase in (omega (arith, at.0), omega (arith, at.1))
-
 -- a sample of three 16-bit values
 pub IsSample-from : (sample : Phases) → unsigned_abs sample.a ≤ 2 ^ 15 → unsigned_abs sample.b ≤ 2 ^ 15 → unsigned_abs sample.c ≤ 2 ^ 15 → IsSample sample
 IsSample-from sample ha hb hc zero = ha
@@ -80,11 +76,11 @@ IsSample-from sample ha hb hc (suc (suc n)) = hc
 IsSample-no_current : IsSample no_current
 IsSample-no_current = IsSample-from no_current (omega arith) (omega arith) (omega arith)
 
--- a set of three samples
-pub IsOfSamples-from : (set : SampleSet) → length set.values ≡ 3 → IsSample (slice_index_or set.values 0 no_current)
-    → IsSample (slice_index_or set.values 1 no_current) → IsSample (slice_index_or set.values 2 no_current) → IsOfSamples set
-IsOfSamples-from set three h0 h1 h2 zero = h0
-IsOfSamples-from set three h0 h1 h2 (suc zero) = h1
-IsOfSamples-from set three h0 h1 h2 (suc (suc zero)) = h2
-IsOfSamples-from set three h0 h1 h2 (suc (suc (suc n))) =
-    subst IsSample (sym (get_or_past set.values (suc (suc (suc n))) no_current (omega arith))) IsSample-no_current
+-- three samples
+pub AreSamples-from : (values : List Phases) → length values ≡ 3 → IsSample (slice_index_or values 0 no_current)
+    → IsSample (slice_index_or values 1 no_current) → IsSample (slice_index_or values 2 no_current) → AreSamples values
+AreSamples-from values three h0 h1 h2 zero = h0
+AreSamples-from values three h0 h1 h2 (suc zero) = h1
+AreSamples-from values three h0 h1 h2 (suc (suc zero)) = h2
+AreSamples-from values three h0 h1 h2 (suc (suc (suc n))) =
+    subst IsSample (sym (get_or_past values (suc (suc (suc n))) no_current (omega arith))) IsSample-no_current

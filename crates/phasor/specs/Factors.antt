@@ -1,6 +1,6 @@
 -- The phasor tables: 16384 times the cosine and the sine of each sample's place in its cycle, rounded.
 use Rattle.std.specs.Prelude.{ℕ, ◌+◌, ◌-◌, ◌/◌, ◌%◌, ℤ, pos, neg_ℤ, nat_le, ◌==◌, if◌then◌else◌, List, [], ◌∷◌, slice_index_or}
-use Rattle.phasor.specs.Point.{Point, times}
+use Rattle.phasor.specs.Point.{Point, scaled}
 
 -- the cosines of the first quarter turn, its end included
 abbrev pub quarter : ℕ → List ℤ
@@ -29,4 +29,4 @@ factor c k = record { re = cosine c (k % c); im = sine c (k % c) }
 
 -- what the value of set k adds to a sum: the value times the factor
 abbrev pub weighed : ℕ → ℕ → ℤ → Point
-weighed c k value = times value (factor c k)
+weighed c k value = scaled value (factor c k)

@@ -1,6 +1,8 @@
+pub mod Changes
 pub mod Factors
 pub mod Offset
 pub mod Point
+pub mod Ring
 pub mod Sizes
 pub mod Sum
 pub mod Tables

@@ -15,8 +15,8 @@ abbrev pub minus : Point → Point → Point
 minus p q = record { re = p.re -ℤ q.re; im = p.im -ℤ q.im }
 
 -- a point as many times
-abbrev pub times : ℤ → Point → Point
-times value p = record { re = value *ℤ p.re; im = value *ℤ p.im }
+abbrev pub scaled : ℤ → Point → Point
+scaled value p = record { re = value *ℤ p.re; im = value *ℤ p.im }
 
 -- the sum of points
 abbrev pub total : List Point → Point

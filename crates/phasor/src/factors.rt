@@ -2,280 +2,58 @@
 
 ghost use Rattle.std.specs.Prelude.{◌≡◌, true};
 ghost use Rattle.ld_base.specs.Settings.{is_cycle};
-ghost use Rattle.phasor.specs.Tables.{factors_of};
+ghost use Rattle.phasor.specs.Factors.{factor};
+ghost use Rattle.phasor.specs.Point.{IsWithin};
+ghost use Rattle.phasor.specs.Sizes.{factor_bits};
+ghost use Rattle.phasor.specs.Tables.{cosines_of};
 
-/// 16384 times the cosine and the sine of a sample's place in its cycle, rounded.
-#[derive(Clone, Copy)]
-pub(crate) struct Factor {
-    pub cosine: i32,
-    pub sine: i32,
-}
+use crate::Phasor;
 
-static FACTORS_4: [Factor; 4] = [
-    Factor {
-        cosine: 16384,
-        sine: 0,
-    },
-    Factor {
-        cosine: 0,
-        sine: 16384,
-    },
-    Factor {
-        cosine: -16384,
-        sine: 0,
-    },
-    Factor {
-        cosine: 0,
-        sine: -16384,
-    },
+// 16384 times the cosine of each place in a cycle, rounded.
+static COSINES_4: [i64; 4] = [16384, 0, -16384, 0];
+
+static COSINES_8: [i64; 8] = [16384, 11585, 0, -11585, -16384, -11585, 0, 11585];
+
+static COSINES_12: [i64; 12] = [
+    16384, 14189, 8192, 0, -8192, -14189, -16384, -14189, -8192, 0, 8192, 14189,
 ];
 
-static FACTORS_8: [Factor; 8] = [
-    Factor {
-        cosine: 16384,
-        sine: 0,
-    },
-    Factor {
-        cosine: 11585,
-        sine: 11585,
-    },
-    Factor {
-        cosine: 0,
-        sine: 16384,
-    },
-    Factor {
-        cosine: -11585,
-        sine: 11585,
-    },
-    Factor {
-        cosine: -16384,
-        sine: 0,
-    },
-    Factor {
-        cosine: -11585,
-        sine: -11585,
-    },
-    Factor {
-        cosine: 0,
-        sine: -16384,
-    },
-    Factor {
-        cosine: 11585,
-        sine: -11585,
-    },
+static COSINES_16: [i64; 16] = [
+    16384, 15137, 11585, 6270, 0, -6270, -11585, -15137, -16384, -15137, -11585, -6270, 0, 6270,
+    11585, 15137,
 ];
 
-static FACTORS_12: [Factor; 12] = [
-    Factor {
-        cosine: 16384,
-        sine: 0,
-    },
-    Factor {
-        cosine: 14189,
-        sine: 8192,
-    },
-    Factor {
-        cosine: 8192,
-        sine: 14189,
-    },
-    Factor {
-        cosine: 0,
-        sine: 16384,
-    },
-    Factor {
-        cosine: -8192,
-        sine: 14189,
-    },
-    Factor {
-        cosine: -14189,
-        sine: 8192,
-    },
-    Factor {
-        cosine: -16384,
-        sine: 0,
-    },
-    Factor {
-        cosine: -14189,
-        sine: -8192,
-    },
-    Factor {
-        cosine: -8192,
-        sine: -14189,
-    },
-    Factor {
-        cosine: 0,
-        sine: -16384,
-    },
-    Factor {
-        cosine: 8192,
-        sine: -14189,
-    },
-    Factor {
-        cosine: 14189,
-        sine: -8192,
-    },
+static COSINES_20: [i64; 20] = [
+    16384, 15582, 13255, 9630, 5063, 0, -5063, -9630, -13255, -15582, -16384, -15582, -13255,
+    -9630, -5063, 0, 5063, 9630, 13255, 15582,
 ];
 
-static FACTORS_16: [Factor; 16] = [
-    Factor {
-        cosine: 16384,
-        sine: 0,
-    },
-    Factor {
-        cosine: 15137,
-        sine: 6270,
-    },
-    Factor {
-        cosine: 11585,
-        sine: 11585,
-    },
-    Factor {
-        cosine: 6270,
-        sine: 15137,
-    },
-    Factor {
-        cosine: 0,
-        sine: 16384,
-    },
-    Factor {
-        cosine: -6270,
-        sine: 15137,
-    },
-    Factor {
-        cosine: -11585,
-        sine: 11585,
-    },
-    Factor {
-        cosine: -15137,
-        sine: 6270,
-    },
-    Factor {
-        cosine: -16384,
-        sine: 0,
-    },
-    Factor {
-        cosine: -15137,
-        sine: -6270,
-    },
-    Factor {
-        cosine: -11585,
-        sine: -11585,
-    },
-    Factor {
-        cosine: -6270,
-        sine: -15137,
-    },
-    Factor {
-        cosine: 0,
-        sine: -16384,
-    },
-    Factor {
-        cosine: 6270,
-        sine: -15137,
-    },
-    Factor {
-        cosine: 11585,
-        sine: -11585,
-    },
-    Factor {
-        cosine: 15137,
-        sine: -6270,
-    },
-];
-
-static FACTORS_20: [Factor; 20] = [
-    Factor {
-        cosine: 16384,
-        sine: 0,
-    },
-    Factor {
-        cosine: 15582,
-        sine: 5063,
-    },
-    Factor {
-        cosine: 13255,
-        sine: 9630,
-    },
-    Factor {
-        cosine: 9630,
-        sine: 13255,
-    },
-    Factor {
-        cosine: 5063,
-        sine: 15582,
-    },
-    Factor {
-        cosine: 0,
-        sine: 16384,
-    },
-    Factor {
-        cosine: -5063,
-        sine: 15582,
-    },
-    Factor {
-        cosine: -9630,
-        sine: 13255,
-    },
-    Factor {
-        cosine: -13255,
-        sine: 9630,
-    },
-    Factor {
-        cosine: -15582,
-        sine: 5063,
-    },
-    Factor {
-        cosine: -16384,
-        sine: 0,
-    },
-    Factor {
-        cosine: -15582,
-        sine: -5063,
-    },
-    Factor {
-        cosine: -13255,
-        sine: -9630,
-    },
-    Factor {
-        cosine: -9630,
-        sine: -13255,
-    },
-    Factor {
-        cosine: -5063,
-        sine: -15582,
-    },
-    Factor {
-        cosine: 0,
-        sine: -16384,
-    },
-    Factor {
-        cosine: 5063,
-        sine: -15582,
-    },
-    Factor {
-        cosine: 9630,
-        sine: -13255,
-    },
-    Factor {
-        cosine: 13255,
-        sine: -9630,
-    },
-    Factor {
-        cosine: 15582,
-        sine: -5063,
-    },
-];
-
-/// The factors of each place in a cycle of that many samples.
-pub(crate) fn factors(cycle: u8) -> &'static [Factor]
+// The cosines of each place in a cycle of that many samples.
+fn cosines(cycle: u8) -> &'static [i64]
     requires { is_cycle cycle ≡ true }
-    ensures { result.now ≡ factors_of cycle }
+    ensures { result.now ≡ cosines_of cycle }
 {
     match cycle {
-        4 => &FACTORS_4,
-        8 => &FACTORS_8,
-        12 => &FACTORS_12,
-        16 => &FACTORS_16,
-        _ => &FACTORS_20,
+        4 => &COSINES_4,
+        8 => &COSINES_8,
+        12 => &COSINES_12,
+        16 => &COSINES_16,
+        _ => &COSINES_20,
+    }
+}
+
+/// The factor of the set of that number: the cosine and the sine of its place in the cycle. The sine is the cosine a quarter
+/// turn before.
+pub(crate) fn factor(cycle: u8, number: u32) -> Phasor
+    requires { is_cycle cycle ≡ true }
+    ensures factor { result ≡ factor cycle number }
+    ensures size { IsWithin factor_bits result }
+{
+    let cosines = cosines(cycle);
+    let places = cosines.len();
+    let place = number as usize % places;
+    Phasor {
+        re: cosines[place],
+        im: cosines[(place + places - places / 4) % places],
     }
 }

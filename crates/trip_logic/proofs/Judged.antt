@@ -1,6 +1,6 @@
 -- What a trip rule keeps and answers after one set more.
 use Rattle.std.specs.Prelude.{ℕ, suc, ◌≡◌, ◌+◌, ◌<◌, ◌≤◌, Bool, true, false, if◌then◌else◌, List, [], ◌∷◌, ◌++◌, Option, Some, None, is_none, slice_index}
-use Rattle.std.proofs.Common.{refl, sym, arith}
+use Rattle.std.proofs.Common.{◌-◌, drop, length, refl, sym, arith}
 use Rattle.std.proofs.lemmas.Bool.Decides.{nat_tests}
 use Rattle.ld_base.specs.declared.phases.SampleSet.{SampleSet}
 use Rattle.ld_base.specs.declared.fields.Fields.{Fields}
@@ -10,9 +10,10 @@ use Rattle.phasor.specs.Sum.{of_three, sums_before, Sums}
 use Rattle.phasor.specs.Window as window
 use Rattle.phasor.proofs.Threes.{of_three_at}
 use Rattle.trip_logic.specs.declared.verdict.Verdict.TheVariants.{Waiting}
-use Rattle.trip_logic.specs.Progress.{Progress, IsRun, StandsFor}
+use Rattle.trip_logic.specs.Progress.{Progress, IsRun, StandsFor, most_recent}
 use Rattle.trip_logic.specs.Steps.{phases_outside, is_known_outside, runs_after, verdict_of, verdicts_of}
 use Rattle.trip_logic.specs.TripAt.{is_outside, are_outside, verdict, verdicts}
+use Rattle.trip_logic.proofs.Recents.{AreLast-push}
 use Rattle.trip_logic.proofs.Runs.{IsRun-push, verdict_by_run}
 
 -- a cycle is more than one sample
@@ -39,6 +40,7 @@ module _ (old new : Progress) (judged : List SampleSet) (set : SampleSet) (sums 
     (stands : StandsFor old judged) (in_range : AreInRange old.settings) (later : old.window.next ≤ set.number)
     (settings : new.settings ≡ old.settings) (cycle : new.window.cycle ≡ old.settings.cycle) (next : new.window.next ≡ set.number + 1)
     (kept : window.StandsFor new.window (judged ++ set ∷ []))
+    (recent : new.recent ≡ drop (length (old.recent ++ set ∷ []) - most_recent old.settings) (old.recent ++ set ∷ []))
     (sums_is : sums ≡ sums_before new.window.cycle (judged ++ set ∷ []) new.window.next)
     (outside_is : outside ≡ phases_outside old.settings sums) (runs : new.runs ≡ runs_after old.runs outside old.settings.count) where
   -- the sums are those at the set
@@ -56,7 +58,11 @@ module _ (old new : Progress) (judged : List SampleSet) (set : SampleSet) (sums 
   StandsFor-push : StandsFor new (judged ++ set ∷ [])
   StandsFor-push =
       let last : new.window.next ≡ suc set.number = omega arith in
-      record { window = kept; runs = λ phase within. rw (settings, last) (runs_now phase within) }
+      record {
+        window = kept;
+        recent = rw (settings, recent) (AreLast-push (most_recent old.settings) judged old.recent set stands.recent);
+        runs = λ phase within. rw (settings, last) (runs_now phase within);
+      }
 
   -- the verdicts by the runs are those at the set
   verdicts_now : verdicts_of new.runs outside old.settings.count ≡ verdicts old.settings (judged ++ set ∷ []) set.number

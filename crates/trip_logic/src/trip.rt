@@ -1,17 +1,22 @@
-ghost use Rattle.std.specs.Prelude.{◌≡◌, ℕ, ◌<◌, ◌≤◌, ◌+◌, ◌++◌, [], ◌∷◌, List, IfOk};
+ghost use Rattle.std.specs.Prelude.{◌≡◌, ℕ, ◌<◌, ◌≤◌, ◌+◌, ◌++◌, [], ◌∷◌, List, IfOk, option_copied};
 ghost use Rattle.std.specs.Option.{ForSome};
 ghost use Rattle.ld_base.specs.Settings.{AreInRange};
 ghost use Rattle.ld_base.specs.declared.phases.SampleSet.{SampleSet};
-ghost use Rattle.phasor.specs.Sizes.{AreWithin};
+ghost use Rattle.phasor.specs.Sizes.{AreWithin, sum_bits};
+ghost use Rattle.phasor.specs.Window as window;
+ghost use Rattle.trip_logic.specs.Cause.{cause};
 ghost use Rattle.trip_logic.specs.Progress.{StandsFor};
 ghost use Rattle.trip_logic.specs.Steps.{phases_outside, run_after, runs_after, verdict_of, verdicts_of};
 ghost use Rattle.trip_logic.specs.TripAt.{is_outside, sector_of, verdicts};
 
 use crate::Verdict;
 use alpha_plane::Region;
+use circular_buffer::HeapCircularBuffer;
 use ld_base::{Fields, NoMemory, SampleSet, Settings};
-use phasor::{Phasor, Window};
-use std::marker::Model;
+use phasor::{Phasor, Steps, Window};
+use std::alloc::Global;
+use std::marker::{Brand, Model};
+use std::sync::ledger::{Blank, Ledger};
 
 /// The trip rule of a line, with what it keeps of the sets judged so far.
 #[derive(Drop)]
@@ -20,24 +25,26 @@ pub struct Trip {
     region: Region,
     window: Window,
     runs: [u8; 3],
+    recent: HeapCircularBuffer<SampleSet>,
 }
 
 impl Model for Trip {
     ghost use Rattle.std.specs.Prelude.{◌≡◌};
-    ghost use Rattle.trip_logic.specs.Progress.{Progress};
+    ghost use Rattle.trip_logic.specs.Progress.{Progress, most_recent};
 
     ghost Value = { Progress };
 
     ghost use Rattle.trip_logic.specs.TripAt.{sector_of};
 
-    ghost view = { λ t. record { settings = t.settings; window = t.window; runs = t.runs } };
+    ghost view = { λ t. record { settings = t.settings; window = t.window; runs = t.runs; recent = t.recent.items } };
 
-    ghost invariant = { λ t. (t.region ≡ sector_of t.settings) × (t.window.cycle ≡ t.settings.cycle) };
+    ghost invariant = { λ t. (t.region ≡ sector_of t.settings) × (t.window.cycle ≡ t.settings.cycle)
+        × (t.recent.capacity ≡ most_recent t.settings) };
 }
 
 impl Trip {
-    /// The trip rule of these settings, before the first set.
-    pub fn new(s: &Settings) -> Result<Trip, NoMemory>
+    /// The trip rule of these settings, before the first set. It keeps room for the sets of `cause`.
+    pub fn new(alloc: Global, s: &Settings) -> Result<Trip, NoMemory>
         ensures settings { IfOk result (λ t. t.settings ≡ s.now) }
         ensures next { IfOk result (λ t. t.window.next ≡ 0) }
         ensures stands { IfOk result (λ t. StandsFor t []) }
@@ -47,11 +54,13 @@ impl Trip {
         let Ok(region) = Region::new(fields.rn, fields.rd, fields.p, fields.q) else {
             unreachable!()
         };
+        let most = usize::from(fields.cycle) + usize::from(fields.count);
         Ok(Trip {
             settings,
             region,
             window: Window::new(fields.cycle),
             runs: [0; 3],
+            recent: HeapCircularBuffer::with_capacity(alloc, most)?,
         })
     }
 
@@ -67,12 +76,36 @@ impl Trip {
         ensures earlier { (judged : List SampleSet) (n : ℕ) → n < set.now.number
             → verdicts self.old.settings (judged ++ set.now ∷ []) n ≡ verdicts self.old.settings judged n }
     {
-        self.window.push(set.number, &set.values);
+        push_uncounted::<Brand>(&mut self.window, set, Blank::new(1));
+        self.recent.push_back(*set);
         let fields = self.settings.fields();
         let outside = phases_outside(&fields, &self.region, self.window.sums());
         self.runs = runs_after(&self.runs, outside, fields.count);
         verdicts_of(&self.runs, outside, fields.count)
     }
+
+    /// The set that was judged `back` sets ago, 0 the last one, so that a trip can be traced to the sets that led to it. None
+    /// exactly where `back` isn't below the lesser of the sets judged and a cycle with the count of a trip.
+    pub fn cause(&self, back: usize) -> Option<&SampleSet>
+        ensures { (judged : List SampleSet) → StandsFor self.now judged
+            → option_copied result ≡ cause self.now.settings judged back }
+    {
+        self.recent.nth_back(back)
+    }
+}
+
+// Pushes a set where nobody counts the products.
+fn push_uncounted<L: Ledger>(kept: &mut Window, set: &SampleSet, blank: Blank)
+    requires later { kept.old.next ≤ set.now.number }
+    requires name { blank.name ≡ L.name }
+    requires parts { blank.parts ≡ L.parts }
+    requires some { 0 < blank.parts }
+    ensures cycle { kept.new.cycle ≡ kept.old.cycle }
+    ensures next { kept.new.next ≡ set.now.number + 1 }
+    ensures stands { (judged : List SampleSet) → window.StandsFor kept.old judged
+        → window.StandsFor kept.new (judged ++ set.now ∷ []) }
+{
+    kept.push(set.number, &set.values, &mut Steps::<L>::new(blank));
 }
 
 // For each phase whether its sums lie outside. None where there are no sums.
@@ -83,7 +116,7 @@ fn phases_outside(
 ) -> Option<[bool; 3]>
     requires region { region.now ≡ sector_of fields.now }
     requires in_range { AreInRange fields.now }
-    requires size { ForSome sums (AreWithin 34) }
+    requires size { ForSome sums (AreWithin sum_bits) }
     ensures { result ≡ phases_outside fields.now sums }
 {
     let sums = sums?;
@@ -98,7 +131,7 @@ fn phases_outside(
 fn is_outside(fields: &Fields, region: &Region, sums: &[[Phasor; 3]; 3], phase: usize) -> bool
     requires region { region.now ≡ sector_of fields.now }
     requires in_range { AreInRange fields.now }
-    requires size { AreWithin 34 sums.now }
+    requires size { AreWithin sum_bits sums.now }
     requires phase { phase < 3 }
     ensures { result ≡ is_outside fields.now phase sums.now }
 {
@@ -156,3 +189,6 @@ fn verdict_of(run: u8, count: u8) -> Verdict
         Verdict::Restrain
     }
 }
+
+#[cfg(test)]
+mod tests;
