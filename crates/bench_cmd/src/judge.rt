@@ -26,7 +26,7 @@ pub(crate) fn judge(alloc: Global, count: u8, input: &[u8]) -> Result<Outcome, N
     ensures { IfOk result (λ outcome. IsOutcome outcome (judge_rows count (rows_of input.now))) }
 {
     let settings = judge_settings(count);
-    let mut trip = Trip::new(&settings)?;
+    let mut trip = Trip::new(alloc, &settings)?;
     let mut rows = Rows::new(alloc, input);
     let mut row = ByteRecord::new(alloc);
     let mut text = Vec::new(alloc);
