@@ -12,7 +12,7 @@ use Rattle.alpha_plane.specs.Inside.{Sector, Inside, square, norm, dot, cross}
 use Rattle.alpha_plane.specs.Product.{product}
 use Rattle.alpha_plane.specs.Region.{region_fault}
 use Rattle.alpha_plane.proofs.Products.{dot-products, cross-products, norm-product, dot_comm, cross_anticomm, times_scaled, neg_scaled}
-use Rattle.alpha_plane.proofs.Ranges.{AreInRange-from_no_fault}
+use Rattle.alpha_plane.proofs.Ranges.{HasSizes-from_no_fault}
 
 -- the test of one radius
 abbrev radius : Sector → Point → Point → Bool
@@ -76,12 +76,13 @@ Inside_comm s l r =
 -- a current other than zero is more than the radius times zero
 radius-zero : (s : Sector) (z : Point) → region_fault s ≡ None → z ≢ origin → radius s z origin ≡ false
 radius-zero s z e h =
-    let rd : 0 < s.rd = (AreInRange-from_no_fault s e).rd.0 in
+    let rd : 0 < s.rd = (HasSizes-from_no_fault s e).some in
     let above : 0 < square s.rd * norm z = mul-pos (mul-pos rd rd) (norm_positive z h) in
     lt-leb (square s.rd * norm z) (square s.rn * 0) (omega arith)
 
 -- such a current alone is outside
-pub Inside-one_zero : (s : Sector) (z : Point) → region_fault s ≡ None → z ≢ origin → (Inside s z origin ≡ false) × (Inside s origin z ≡ false)
+pub Inside-one_zero : (s : Sector) (z : Point) → region_fault s ≡ None → z ≢ origin
+    → (Inside s z origin ≡ false) × (Inside s origin z ≡ false)
 Inside-one_zero s z e h = (
   (λ i. radius s origin z && radius-zero s z e h i && angle s (dot z origin) (cross z origin)) ∙ ap (λ t. t && angle s (dot z origin) (cross z origin)) (and-false (radius s origin z)),
   λ i. radius-zero s z e h i && radius s origin z && angle s (dot origin z) (cross origin z),

@@ -3,3 +3,5 @@ pub mod Ranges
 pub mod Insides
 pub mod Totals
 pub mod Outsides
+pub mod Pickups
+pub mod Radii

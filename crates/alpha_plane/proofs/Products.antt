@@ -1,6 +1,8 @@
 -- Products of points: their norms, dot products and cross products.
 use Rattle.std.proofs.Common.{◌≡◌, ◌∙◌, sym, ap, ℕ, ◌*◌, ℤ, pos, negsuc, ◌*ℤ◌, neg_ℤ, unsigned_abs, refl, arith}
 use Rattle.phasor.specs.Point.{Point}
+use Rattle.std.proofs.lemmas.Int.{ints}
+use Rattle.phasor.proofs.Points.{same_point}
 use Rattle.phasor.proofs.Differences.{number, sum, negation, times, equal}
 use Rattle.alpha_plane.specs.Inside.{square, norm, dot, cross}
 use Rattle.alpha_plane.specs.Product.{product}
@@ -35,26 +37,37 @@ dot-products z l r = multiplied ∙ ap (λ x. x *ℤ dot l r) (dot-self z)
         (times (sum (times a a) (times b b)) (sum (times c e) (times d f)))
         (omega arith)
 
--- and so is their cross product
+-- a negated factor negates a product
+times_neg : (a b : ℤ) → a *ℤ neg_ℤ b ≡ neg_ℤ (a *ℤ b)
+times_neg a b =
+    let x = number a in
+    let y = number b in
+    equal (times x (negation y)) (negation (times x y)) (omega arith)
+
+-- a point turned back by a quarter
+abbrev quarter : Point → Point
+quarter z = record { re = z.im; im = neg_ℤ z.re }
+
+-- the cross product is the dot product with the other factor turned
+cross-quarter : (l r : Point) → cross l r ≡ dot l (quarter r)
+cross-quarter l r =
+    let ahead = l.re *ℤ r.im in
+    let behind = l.im *ℤ r.re in
+    rw (times_neg l.im r.re) (omega (arith, ints))
+
+-- a product is turned with its factor
+quarter-product : (z r : Point) → quarter (product z r) ≡ product z (quarter r)
+quarter-product z r = same_point _ _
+    (rw (times_neg z.im r.re) (let one = z.re *ℤ r.im in let other = z.im *ℤ r.re in omega (arith, ints)))
+    (rw (times_neg z.re r.re) (let one = z.re *ℤ r.re in let other = z.im *ℤ r.im in omega (arith, ints)))
+
+-- so the same holds of the cross product
 pub cross-products : (z l r : Point) → cross (product z l) (product z r) ≡ pos (norm z) *ℤ cross l r
-cross-products z l r = multiplied ∙ ap (λ x. x *ℤ cross l r) (dot-self z)
-  where
-    multiplied : cross (product z l) (product z r) ≡ dot z z *ℤ cross l r
-    multiplied =
-        let a = number z.re in
-        let b = number z.im in
-        let c = number l.re in
-        let d = number l.im in
-        let e = number r.re in
-        let f = number r.im in
-        let re_l = sum (times a c) (negation (times b d)) in
-        let im_l = sum (times a d) (times b c) in
-        let re_r = sum (times a e) (negation (times b f)) in
-        let im_r = sum (times a f) (times b e) in
-        equal
-        (sum (times re_l im_r) (negation (times im_l re_r)))
-        (times (sum (times a a) (times b b)) (sum (times c f) (negation (times d e))))
-        (omega arith)
+cross-products z l r =
+    cross-quarter (product z l) (product z r)
+    ∙ ap (dot (product z l)) (quarter-product z r)
+    ∙ dot-products z l (quarter r)
+    ∙ ap (λ d. pos (norm z) *ℤ d) (sym (cross-quarter l r))
 
 -- the norm of a product is the product of the norms
 pub norm-product : (z l : Point) → norm (product z l) ≡ norm z * norm l

@@ -1,27 +1,29 @@
--- The ranges of an accepted region.
+-- The sizes of an accepted region.
 use Rattle.std.proofs.Common.{◌≡◌, ℕ, ◌*◌, ◌^◌, ◌<◌, ◌≤◌, unsigned_abs, None, arith, mul-le-mul}
 use Rattle.std.proofs.lemmas.Bool.Decides.{nat_tests}
 use Rattle.std.proofs.lemmas.Int.{ints}
-use Rattle.alpha_plane.specs.Inside.{Sector}
+use Rattle.alpha_plane.specs.Inside.{Sector, norm_bits, side_bits}
 use Rattle.alpha_plane.specs.Region.{region_fault}
 
--- the ranges of a region, one by one
-pub record AreInRange (s : Sector) : Type 0 where
-  pub rn : (1 ≤ s.rn) × (s.rn ≤ 10000)
-  pub rd : (1 ≤ s.rd) × (s.rd ≤ 10000)
-  pub p : unsigned_abs s.p ≤ 10000
-  pub q : unsigned_abs s.q ≤ 10000
+-- what the ranges of an accepted region come to
+pub record HasSizes (s : Sector) : Type 0 where
+  pub some : 0 < s.rd
+  pub ratio : s.rd ≤ s.rn
+  pub rn : s.rn ≤ 2 ^ side_bits
+  pub p : unsigned_abs s.p ≤ 2 ^ side_bits
+  pub q : unsigned_abs s.q ≤ 2 ^ side_bits
 
--- a region with no fault is in range
-pub AreInRange-from_no_fault : (s : Sector) → region_fault s ≡ None → AreInRange s
+-- a region with no fault has them
+pub HasSizes-from_no_fault : (s : Sector) → region_fault s ≡ None → HasSizes s
 unfolding region_fault
-AreInRange-from_no_fault s e = record {
+HasSizes-from_no_fault s e = record {
+  some = grind (arith, nat_tests, ints);
+  ratio = grind (arith, nat_tests, ints);
   rn = grind (arith, nat_tests, ints);
-  rd = grind (arith, nat_tests, ints);
   p = grind (arith, nat_tests, ints);
   q = grind (arith, nat_tests, ints);
 }
 
 -- a norm times the square of a radius fits a u128
-pub scaled_norm : (n m : ℕ) → n ≤ 10000 → m ≤ 2 ^ 73 → n * n * m < 2 ^ 128
+pub scaled_norm : (n m : ℕ) → n ≤ 2 ^ side_bits → m ≤ 2 ^ norm_bits → n * n * m < 2 ^ 128
 scaled_norm n m h k = omega (arith, mul-le-mul (mul-le-mul h h) k)

@@ -3,18 +3,15 @@ use Rattle.std.proofs.Common.{◌≡◌, ◌∙◌, sym, ap, ℕ, ◌+◌, ◌<�
 use Rattle.std.proofs.lemmas.Int.{ints}
 use Rattle.std.proofs.lemmas.List.{take_more}
 use Rattle.ld_base.proofs.Sizes.{unsigned_abs-add}
+use Rattle.phasor.proofs.Points.{same_point}
 use Rattle.phasor.specs.Point.{Point, origin, plus, minus, total}
-
--- points are equal where their parts are
-same_point : (p q : Point) → p.re ≡ q.re → p.im ≡ q.im → p ≡ q
-same_point p q e f = λ i. record { re = e i; im = f i }
 
 -- the sum of three points does not depend on their grouping
 plus_assoc : (p q r : Point) → plus p (plus q r) ≡ plus (plus p q) r
 plus_assoc p q r = same_point _ _ (omega (arith, ints)) (omega (arith, ints))
 
 -- the origin adds nothing, on either side
-plus-origin : (p : Point) → plus p origin ≡ p
+pub plus-origin : (p : Point) → plus p origin ≡ p
 plus-origin p = same_point _ _ (omega (arith, ints)) (omega (arith, ints))
 
 origin-plus : (p : Point) → plus origin p ≡ p

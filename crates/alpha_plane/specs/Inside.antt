@@ -20,6 +20,14 @@ square n = n * n
 abbrev pub norm : Point → ℕ
 norm z = square (unsigned_abs z.re) + square (unsigned_abs z.im)
 
+-- the numbers of a region have at most 14 bits
+abbrev pub side_bits : ℕ
+side_bits = 14
+
+-- the norm of a phasor has at most 73 bits
+abbrev pub norm_bits : ℕ
+norm_bits = 73
+
 -- the real part of l times the conjugate of r
 abbrev pub dot : Point → Point → ℤ
 dot l r = (l.re *ℤ r.re) +ℤ (l.im *ℤ r.im)

@@ -1,15 +1,29 @@
-ghost use Rattle.std.specs.Prelude.{◌≡◌, ◌⊎◌, ◌≤◌, ◌*◌, ◌^◌, None, Some, length, All, MatchResult, nat_le, nat_lt, pos, ◌*ℤ◌, neg_ℤ, int_le, unsigned_abs};
-ghost use Rattle.alpha_plane.specs.Inside.{Inside, sector, square, norm, dot, cross};
-ghost use Rattle.alpha_plane.specs.Outside.{OutsideAll};
+ghost use Rattle.std.specs.Prelude.{◌≡◌, ◌⊎◌, ◌≤◌, ◌*◌, ◌^◌, ◌&&◌, [], None, Some, length, All, MatchResult, nat_le, nat_lt, pos, ◌*ℤ◌, neg_ℤ, int_le, unsigned_abs};
+ghost use Rattle.alpha_plane.specs.Inside.{Inside, sector, square, norm, norm_bits, dot, cross};
+ghost use Rattle.alpha_plane.specs.Outside.{OutsideAll, each_outside};
+ghost use Rattle.phasor.specs.Factors.{scale};
 ghost use Rattle.alpha_plane.specs.Region.{region_fault};
 ghost use Rattle.phasor.specs.Point.{IsWithin, total};
+ghost use Rattle.phasor.specs.Sizes.{sum_bits};
 
 use ld_base::Wide;
 use phasor::Phasor;
 use std::marker::Model;
 
-/// The largest number of a region's radius and direction.
-pub const LARGEST: u32 = 10_000;
+// The largest number of a region's radius and direction.
+const LARGEST: u32 = 10_000;
+
+// The bits of those numbers, of a phasor's parts, of their products, and of a norm, a dot or a cross product.
+const SIDE_BITS: u32 = 14;
+
+const PART_BITS: u32 = 36;
+
+const PRODUCT_BITS: u32 = 72;
+
+const NORM_BITS: u32 = 73;
+
+// The scale of the phasor tables.
+const SCALE: u64 = 16_384;
 
 /// Why a region is refused: the first of these that holds.
 #[derive(Clone, Copy, Debug, PartialEq, Eq)]
@@ -66,49 +80,63 @@ impl Region {
     pub fn inside(&self, l: Phasor, r: Phasor) -> bool
         ensures { result ≡ Inside self.now l r }
     {
-        let (local, remote) = (norm(l), norm(r));
-        self.is_at_most_radius(remote, local)
-            && self.is_at_most_radius(local, remote)
-            && self.is_at_most_angle(dot(l, r), cross(l, r))
+        self.is_within_radius(norm(l), norm(r)) && self.is_at_most_angle(dot(l, r), cross(l, r))
     }
 
-    // Whether the current of norm `one` is at most `rn / rd` times that of norm `other`.
-    fn is_at_most_radius(&self, one: u128, other: u128) -> bool
-        requires one { one ≤ 2 ^ 73 }
-        requires other { other ≤ 2 ^ 73 }
-        ensures { result ≡ nat_le (square self.now.rd * one) (square self.now.rn * other) }
+    // Whether neither of two currents of these norms is above `rn / rd` times the other. The greater one decides.
+    fn is_within_radius(&self, local: u128, remote: u128) -> bool
+        requires local { local ≤ 2 ^ norm_bits }
+        requires remote { remote ≤ 2 ^ norm_bits }
+        ensures { result ≡ (nat_le (square self.now.rd * remote) (square self.now.rn * local)
+            && nat_le (square self.now.rd * local) (square self.now.rn * remote)) }
     {
-        let (rn, rd) = (u128::from(self.rn), u128::from(self.rd));
-        rd * rd * one <= rn * rn * other
+        let (rn, rd) = (u64::from(self.rn), u64::from(self.rd));
+        u128::from(rd * rd) * local.max(remote) <= u128::from(rn * rn) * local.min(remote)
     }
 
     // Whether two currents of this dot and cross product are turned from opposition by at most the angle of `(p, q)`.
     fn is_at_most_angle(&self, dot: Wide, cross: Wide) -> bool
-        requires dot { unsigned_abs dot ≤ 2 ^ 73 }
-        requires cross { unsigned_abs cross ≤ 2 ^ 73 }
+        requires dot { unsigned_abs dot ≤ 2 ^ norm_bits }
+        requires cross { unsigned_abs cross ≤ 2 ^ norm_bits }
         ensures { result ≡ int_le (self.now.p *ℤ pos (unsigned_abs cross)) (self.now.q *ℤ neg_ℤ dot) }
     {
-        let sideways = Wide::from(i64::from(self.p)).times::<14, 73>(cross.absolute());
-        let opposite = Wide::from(i64::from(self.q)).times::<14, 73>(dot.negated());
+        let sideways = Wide::from(i64::from(self.p)).times::<SIDE_BITS, NORM_BITS>(
+            cross.absolute(),
+        );
+        let opposite = Wide::from(i64::from(self.q)).times::<SIDE_BITS, NORM_BITS>(dot.negated());
         sideways.is_at_most(opposite)
     }
 
     /// Whether the sums of one phase, one for each station, lie outside the region: their total passes the pickup, and
     /// each of them lies outside against the sum of the others. `pickup` is in counts of the converter, `cycle` in
     /// samples.
-    #[tactic(auto, using(crate::proofs::Outsides::stations))]
     pub fn outside_all(&self, sums: &[Phasor], pickup: u16, cycle: u8) -> bool
         requires stations { (length sums.now ≡ 2) ⊎ (length sums.now ≡ 3) }
-        requires size { All (IsWithin 34) sums.now }
+        requires size { All (IsWithin sum_bits) sums.now }
         requires cycle { (4 ≤ cycle) × (cycle ≤ 20) }
         ensures { result ≡ OutsideAll self.now pickup cycle sums.now }
     {
         let total = total(sums);
-        if !passes_pickup(total, pickup, cycle) {
-            return false;
+        passes_pickup(total, pickup, cycle) && self.each_outside(sums, total)
+    }
+
+    // Whether each of two or three sums lies outside against the others, which are their total without it. Of two, one
+    // lies outside as the other does.
+    #[inline(never)]
+    #[tactic(auto, using(crate::proofs::Outsides::stations))]
+    fn each_outside(&self, sums: &[Phasor], differential: Phasor) -> bool
+        requires stations { (length sums.now ≡ 2) ⊎ (length sums.now ≡ 3) }
+        requires size { All (IsWithin sum_bits) sums.now }
+        requires total { differential ≡ total sums.now }
+        requires total_size { (unsigned_abs differential.re ≤ 3 * 2 ^ sum_bits)
+            × (unsigned_abs differential.im ≤ 3 * 2 ^ sum_bits) }
+        ensures { result ≡ each_outside self.now [] sums.now }
+    {
+        if sums.len() == 2 {
+            return !self.inside(sums[0], sums[1]);
         }
         for sum in sums {
-            if self.inside(*sum, total.minus(*sum)) {
+            if self.inside(*sum, differential.minus(*sum)) {
                 return false;
             }
         }
@@ -120,9 +148,9 @@ impl Region {
 #[tactic(auto, using(crate::proofs::Totals::steps))]
 fn total(sums: &[Phasor]) -> Phasor
     requires few { length sums.now ≤ 3 }
-    requires size { All (IsWithin 34) sums.now }
+    requires size { All (IsWithin sum_bits) sums.now }
     ensures total { result ≡ total sums.now }
-    ensures size { (unsigned_abs result.re ≤ 3 * 2 ^ 34) × (unsigned_abs result.im ≤ 3 * 2 ^ 34) }
+    ensures size { (unsigned_abs result.re ≤ 3 * 2 ^ sum_bits) × (unsigned_abs result.im ≤ 3 * 2 ^ sum_bits) }
 {
     let mut total = Phasor::zero();
     for sum in sums {
@@ -131,19 +159,22 @@ fn total(sums: &[Phasor]) -> Phasor
     total
 }
 
-// Whether a differential current is above the pickup.
+// Whether a differential current is above the pickup. Most currents lie so far below it that the sum of their parts does.
 fn passes_pickup(total: Phasor, pickup: u16, cycle: u8) -> bool
     requires { cycle ≤ 20 }
-    ensures { result ≡ nat_lt (square (pickup * cycle * 16384)) (4 * norm total) }
+    ensures { result ≡ nat_lt (square (pickup * cycle * scale)) (4 * norm total) }
 {
-    let limit = u128::from(pickup) * u128::from(cycle) * 16384;
-    limit * limit < 4 * norm(total)
+    let limit = u64::from(pickup) * u64::from(cycle) * SCALE;
+    if 2 * (total.re.unsigned_abs() + total.im.unsigned_abs()) <= limit {
+        return false;
+    }
+    u128::from(limit) * u128::from(limit) < 4 * norm(total)
 }
 
 // The square of a phasor's amplitude.
 fn norm(z: Phasor) -> u128
     ensures norm { result ≡ norm z }
-    ensures size { result ≤ 2 ^ 73 }
+    ensures size { result ≤ 2 ^ norm_bits }
 {
     let (re, im) = (
         u128::from(z.re.unsigned_abs()),
@@ -155,21 +186,21 @@ fn norm(z: Phasor) -> u128
 // The real part of `l` times the conjugate of `r`.
 fn dot(l: Phasor, r: Phasor) -> Wide
     ensures dot { result ≡ dot l r }
-    ensures size { unsigned_abs result ≤ 2 ^ 73 }
+    ensures size { unsigned_abs result ≤ 2 ^ norm_bits }
 {
-    let re = Wide::from(l.re).times::<36, 36>(Wide::from(r.re));
-    let im = Wide::from(l.im).times::<36, 36>(Wide::from(r.im));
-    re.plus::<72>(im)
+    let re = Wide::from(l.re).times::<PART_BITS, PART_BITS>(Wide::from(r.re));
+    let im = Wide::from(l.im).times::<PART_BITS, PART_BITS>(Wide::from(r.im));
+    re.plus::<PRODUCT_BITS>(im)
 }
 
 // The imaginary part of `r` times the conjugate of `l`.
 fn cross(l: Phasor, r: Phasor) -> Wide
     ensures cross { result ≡ cross l r }
-    ensures size { unsigned_abs result ≤ 2 ^ 73 }
+    ensures size { unsigned_abs result ≤ 2 ^ norm_bits }
 {
-    let ahead = Wide::from(l.re).times::<36, 36>(Wide::from(r.im));
-    let behind = Wide::from(l.im).times::<36, 36>(Wide::from(r.re));
-    ahead.minus::<72>(behind)
+    let ahead = Wide::from(l.re).times::<PART_BITS, PART_BITS>(Wide::from(r.im));
+    let behind = Wide::from(l.im).times::<PART_BITS, PART_BITS>(Wide::from(r.re));
+    ahead.minus::<PRODUCT_BITS>(behind)
 }
 
 #[cfg(test)]

@@ -9,5 +9,6 @@ pub mod Points
 pub mod Rings
 pub mod Sizes
 pub mod Threes
+pub mod Unchanged
 pub mod Values
 pub mod Windows

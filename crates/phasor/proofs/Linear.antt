@@ -17,7 +17,8 @@ sum_from c value p sets = fold (λ sum set. plus sum (weighed c set.number (valu
 
 -- the sum of two values each is that of the ones and that of the others
 module _ (c : ℕ) (u v : SampleSet → ℤ) where
-  sum_from-plus : (p q : Point) (sets : List SampleSet) → sum_from c (λ set. u set +ℤ v set) (plus p q) sets ≡ plus (sum_from c u p sets) (sum_from c v q sets)
+  sum_from-plus : (p q : Point) (sets : List SampleSet)
+      → sum_from c (λ set. u set +ℤ v set) (plus p q) sets ≡ plus (sum_from c u p sets) (sum_from c v q sets)
   sum_from-plus p q [] = refl
   sum_from-plus p q (set ∷ sets) =
       ap (λ r. sum_from c (λ s. u s +ℤ v s) r sets) (taken p q (u set) (v set) (factor c set.number)) ∙ sum_from-plus (plus p (weighed c set.number (u set))) (plus q (weighed c set.number (v set))) sets

@@ -24,7 +24,8 @@ factors_before c (suc count) zero = origin
 factors_before c (suc count) (suc stop) = plus (factors_before c count stop) (factor c stop)
 
 -- as many factors from one number on take in the next and lose the first
-factors_slide : (c count k : ℕ) → plus (factors_before c count (suc (k + count))) (factor c k) ≡ plus (factors_before c count (k + count)) (factor c (k + count))
+factors_slide : (c count k : ℕ)
+    → plus (factors_before c count (suc (k + count))) (factor c k) ≡ plus (factors_before c count (k + count)) (factor c (k + count))
 factors_slide c zero k = let same : k + 0 ≡ k = omega arith in rw same refl
 factors_slide c (suc count) k =
     let next : k + suc count ≡ suc (k + count) = omega arith in

@@ -9,11 +9,13 @@ pub same_point : (p q : Point) → p.re ≡ q.re → p.im ≡ q.im → p ≡ q
 same_point p q e f = λ i. record { re = e i; im = f i }
 
 -- a sum of 64 bits is the sum, where its terms are small
-pub sum_kept : (a b : ℤ) → unsigned_abs a ≤ 2 ^ 36 → unsigned_abs b ≤ 2 ^ 36 → to_z w64 (of_z w64 (to_z w64 (of_z w64 a) +ℤ to_z w64 (of_z w64 b))) ≡ a +ℤ b
+pub sum_kept : (a b : ℤ) → unsigned_abs a ≤ 2 ^ 36 → unsigned_abs b ≤ 2 ^ 36
+    → to_z w64 (of_z w64 (to_z w64 (of_z w64 a) +ℤ to_z w64 (of_z w64 b))) ≡ a +ℤ b
 sum_kept a b ha hb = omega (arith, ints)
 
 -- a difference of 64 bits is the difference, where its terms are small
-pub difference_kept : (a b : ℤ) → unsigned_abs a ≤ 2 ^ 36 → unsigned_abs b ≤ 2 ^ 36 → to_z w64 (of_z w64 (to_z w64 (of_z w64 a) -ℤ to_z w64 (of_z w64 b))) ≡ a -ℤ b
+pub difference_kept : (a b : ℤ) → unsigned_abs a ≤ 2 ^ 36 → unsigned_abs b ≤ 2 ^ 36
+    → to_z w64 (of_z w64 (to_z w64 (of_z w64 a) -ℤ to_z w64 (of_z w64 b))) ≡ a -ℤ b
 difference_kept a b ha hb = omega (arith, ints)
 
 -- a point of 64-bit parts

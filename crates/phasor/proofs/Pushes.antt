@@ -1,5 +1,5 @@
 -- The sums of the kept sets once a set came in, and the oldest went out where a full cycle was kept.
-use Rattle.std.proofs.Common.{◌≡◌, ◌∙◌, sym, ap, refl, ℕ, zero, suc, ◌+◌, ◌%◌, ◌<◌, ◌≤◌, ℤ, pos, ◌+ℤ◌, ◌-ℤ◌, ◌*ℤ◌, neg_ℤ, List, [], ◌∷◌, ◌++◌, length, slice_index_or, inl, inr, arith}
+use Rattle.std.proofs.Common.{◌≡◌, ◌∙◌, sym, ap, refl, ℕ, zero, suc, ◌+◌, ◌<◌, ◌≤◌, ℤ, pos, ◌+ℤ◌, ◌-ℤ◌, ◌*ℤ◌, List, [], ◌∷◌, ◌++◌, length, slice_index_or, inl, inr, arith}
 use Rattle.std.specs.List.{All}
 use Rattle.std.proofs.Math.Nat.{add-mod_right}
 use Rattle.std.proofs.lemmas.Bool.{cases_lt}
@@ -12,11 +12,11 @@ use Rattle.ld_base.specs.declared.phases.SampleSet.{SampleSet}
 use Rattle.phasor.specs.Changes.{changed}
 use Rattle.phasor.specs.Factors.{factor, weighed}
 use Rattle.phasor.specs.Point.{Point, origin, plus, scaled}
-use Rattle.phasor.specs.Ring.{quiet, Leaves, IsPushed}
+use Rattle.phasor.specs.Ring.{quiet, IsPushed}
 use Rattle.phasor.specs.Sizes.{IsOfSamples}
 use Rattle.phasor.specs.Sum.{phase_of, no_current, current, sum_of, sums_of}
 use Rattle.phasor.specs.Window.{Kept}
-use Rattle.phasor.proofs.Differences.{number, sum, negation, times, equal, +ℤ-*ℤ}
+use Rattle.phasor.proofs.Differences.{number, sum, negation, times, equal}
 use Rattle.phasor.proofs.Linear.{sum_from}
 use Rattle.phasor.proofs.Points.{same_point}
 
@@ -108,8 +108,10 @@ pushed_by P ring new set leaving pushed few some in_room in_full = elim (cases_l
         rw (pushed.full oldest rest whole is, leaves.0) (in_full oldest rest is whole leaves.1)
 
 -- so the sums stay those of the kept sets
-pub sums_of-pushed : (ring new : Kept) (set : SampleSet) (leaving : List Phases) → IsPushed ring new set leaving → length ring.sets ≤ ring.cycle
-    → 0 < ring.cycle → set.number ≡ ring.next → sums_of ring.cycle new.sets ≡ changed (sums_of ring.cycle ring.sets) set.values leaving (factor ring.cycle set.number)
+pub sums_of-pushed : (ring new : Kept) (set : SampleSet) (leaving : List Phases) → IsPushed ring new set leaving
+    → length ring.sets ≤ ring.cycle
+    → 0 < ring.cycle → set.number ≡ ring.next
+    → sums_of ring.cycle new.sets ≡ changed (sums_of ring.cycle ring.sets) set.values leaving (factor ring.cycle set.number)
 sums_of-pushed ring new set leaving pushed few some follows =
     pushed_by (λ old sets out. sums_of ring.cycle sets ≡ changed (sums_of ring.cycle old) set.values out (factor ring.cycle set.number)) ring new set leaving pushed few some
     (λ room. sums_of-changed ring.cycle ring.sets (ring.sets ++ set ∷ []) set quiet
@@ -128,7 +130,8 @@ All-pushed ring new set leaving pushed few some all one =
     (λ oldest rest is whole cycle_apart. All-push IsOfSamples rest set (All-tail IsOfSamples oldest rest (rw is at all)) one)
 
 -- and at most a cycle
-pub length-pushed : (ring new : Kept) (set : SampleSet) (leaving : List Phases) → IsPushed ring new set leaving → length ring.sets ≤ ring.cycle
+pub length-pushed : (ring new : Kept) (set : SampleSet) (leaving : List Phases) → IsPushed ring new set leaving
+    → length ring.sets ≤ ring.cycle
     → 0 < ring.cycle → length new.sets ≤ ring.cycle
 length-pushed ring new set leaving pushed few some =
     pushed_by (λ old sets out. length sets ≤ ring.cycle) ring new set leaving pushed few some
@@ -136,7 +139,8 @@ length-pushed ring new set leaving pushed few some =
     (λ oldest rest is whole cycle_apart. omega (arith, length_push rest set, ap length is))
 
 -- the same as the code computes the next sums
-pub sums_next : (ring new : Kept) (set : SampleSet) (leaving : List Phases) (sums next : List (List Point)) (cycle : ℕ) (f : Point) → IsPushed ring new set leaving
+pub sums_next : (ring new : Kept) (set : SampleSet) (leaving : List Phases) (sums next : List (List Point)) (cycle : ℕ) (f : Point)
+    → IsPushed ring new set leaving
     → length ring.sets ≤ ring.cycle → 0 < ring.cycle → ring.next ≡ set.number → sums ≡ sums_of ring.cycle ring.sets → cycle ≡ new.cycle
     → f ≡ factor cycle set.number → next ≡ changed sums set.values leaving f → next ≡ sums_of new.cycle new.sets
 sums_next ring new set leaving sums next cycle f pushed few some follows sums_are cycle_is f_is next_is =

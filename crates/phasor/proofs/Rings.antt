@@ -1,5 +1,5 @@
 -- What a ring keeps once the values of one set more stand at their place.
-use Rattle.std.proofs.Common.{◌≡◌, ◌≢◌, ◌∙◌, sym, ap, refl, ℕ, zero, suc, ◌+◌, ◌-◌, ◌*◌, ◌/◌, ◌%◌, ◌<◌, ◌≤◌, min, pos, List, [], ◌∷◌, ◌++◌, length, set, slice_index_or, inl, inr, arith, mul-le-mul_left}
+use Rattle.std.proofs.Common.{◌≡◌, ◌≢◌, ◌∙◌, sym, ap, refl, ℕ, zero, suc, ◌+◌, ◌-◌, ◌/◌, ◌%◌, ◌<◌, ◌≤◌, min, pos, List, [], ◌∷◌, ◌++◌, length, set, slice_index_or, inl, inr, arith, mul-le-mul_left}
 use Rattle.std.proofs.Math.Nat.{add-mod_right}
 use Rattle.std.proofs.lemmas.Bool.{cases_lt}
 use Rattle.std.proofs.lemmas.List.{length_push, get_or-set_same, get_or-set_other}
@@ -21,7 +21,8 @@ places_differ c k n some below near same = elim (cases_lt (k / c) (n / c)) [
 ]
 
 -- as many sets are read
-pub length-sets_below : (c : ℕ) (places : List (List Phases)) (count stop : ℕ) → count ≤ stop → length (sets_below c places count stop) ≡ count
+pub length-sets_below : (c : ℕ) (places : List (List Phases)) (count stop : ℕ) → count ≤ stop
+    → length (sets_below c places count stop) ≡ count
 length-sets_below c places zero stop few = refl
 length-sets_below c places (suc count) zero few = absurd (omega arith)
 length-sets_below c places (suc count) (suc stop) few =
@@ -29,7 +30,8 @@ length-sets_below c places (suc count) (suc stop) few =
 
 -- other places don't matter
 sets_below-set : (c : ℕ) (places : List (List Phases)) (place : ℕ) (values : List Phases) (count stop : ℕ)
-    → ((k : ℕ) → stop ≤ k + count → k < stop → k % c ≢ place) → sets_below c (set places place values) count stop ≡ sets_below c places count stop
+    → ((k : ℕ) → stop ≤ k + count → k < stop → k % c ≢ place)
+    → sets_below c (set places place values) count stop ≡ sets_below c places count stop
 sets_below-set c places place values zero stop other = refl
 sets_below-set c places place values (suc count) zero other = refl
 sets_below-set c places place values (suc count) (suc stop) other =
@@ -45,7 +47,8 @@ sets_below-first c places (suc count) first =
     rw next (ap (λ sets. sets ++ record { number = suc (first + count); values = slice_index_or places (suc (first + count) % c) [] } ∷ []) (sets_below-first c places count first))
 
 -- so it is by any reading
-first_read : (c : ℕ) (places : List (List Phases)) (count first next : ℕ) (oldest : SampleSet) (rest : List SampleSet) → next ≡ suc (first + count)
+first_read : (c : ℕ) (places : List (List Phases)) (count first next : ℕ) (oldest : SampleSet) (rest : List SampleSet)
+    → next ≡ suc (first + count)
     → sets_below c places (suc count) next ≡ oldest ∷ rest
     → (oldest ≡ record { number = first; values = slice_index_or places (first % c) [] }) × (rest ≡ sets_below c places count next)
 first_read c places count first next oldest rest is read =

@@ -67,7 +67,8 @@ AreWithin-sums_of c sets few all =
     (λ s p. IsWithin-sum_of c (current s p) sets few (λ k d h. all k d h s p))
 
 -- a sample of three 16-bit values
-pub IsSample-from : (sample : Phases) → unsigned_abs sample.a ≤ 2 ^ 15 → unsigned_abs sample.b ≤ 2 ^ 15 → unsigned_abs sample.c ≤ 2 ^ 15 → IsSample sample
+pub IsSample-from : (sample : Phases) → unsigned_abs sample.a ≤ 2 ^ 15 → unsigned_abs sample.b ≤ 2 ^ 15 → unsigned_abs sample.c ≤ 2 ^ 15
+    → IsSample sample
 IsSample-from sample ha hb hc zero = ha
 IsSample-from sample ha hb hc (suc zero) = hb
 IsSample-from sample ha hb hc (suc (suc n)) = hc

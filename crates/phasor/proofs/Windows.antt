@@ -1,5 +1,5 @@
 -- What a window stands for once it has taken one set more, and the sums of what it stands for.
-use Rattle.std.proofs.Common.{◌≡◌, ℕ, zero, suc, ◌+◌, ◌<◌, ◌≤◌, List, [], ◌∷◌, ◌++◌, length, remove, Some, None, option_map, refl, ap, ◌∙◌, arith}
+use Rattle.std.proofs.Common.{◌≡◌, ℕ, zero, suc, ◌+◌, ◌<◌, ◌≤◌, List, [], ◌∷◌, ◌++◌, length, Some, None, option_map, refl, ap, ◌∙◌, arith}
 use Rattle.std.proofs.lemmas.List.{length_push}
 use Rattle.ld_base.specs.declared.phases.Phases.{Phases}
 use Rattle.ld_base.specs.declared.phases.SampleSet.{SampleSet}
@@ -53,11 +53,13 @@ StandsFor-push ring new pushed set leaving is_pushed few some follows stands =
     below n past = stands.below n (omega arith)
 
 -- there are no sums where less than a cycle is kept
-pub sums_before-short : (window : Kept) (pushed : List SampleSet) → StandsFor window pushed → length window.sets < window.cycle → sums_before window.cycle pushed window.next ≡ None
+pub sums_before-short : (window : Kept) (pushed : List SampleSet) → StandsFor window pushed → length window.sets < window.cycle
+    → sums_before window.cycle pushed window.next ≡ None
 sums_before-short window pushed stands short =
     ap (option_map (sums_of window.cycle)) (sets_before-none pushed (suc (length window.sets)) window.cycle window.next (omega arith) (stands.whole short))
 
 -- the sums are those of the kept sets where a full cycle is kept
-pub sums_before-full : (window : Kept) (pushed : List SampleSet) → StandsFor window pushed → length window.sets ≡ window.cycle → sums_before window.cycle pushed window.next ≡ Some (sums_of window.cycle window.sets)
+pub sums_before-full : (window : Kept) (pushed : List SampleSet) → StandsFor window pushed → length window.sets ≡ window.cycle
+    → sums_before window.cycle pushed window.next ≡ Some (sums_of window.cycle window.sets)
 sums_before-full window pushed stands full =
     ap (option_map (sums_of window.cycle)) (rw full at stands.kept)

@@ -1,5 +1,5 @@
 -- How sums change: the sums once the values of a set came in and those of another went out, both with one factor.
-use Rattle.std.specs.Prelude.{ℕ, ◌-ℤ◌, List, [], slice_index_or}
+use Rattle.std.specs.Prelude.{◌-ℤ◌, List, [], slice_index_or}
 use Rattle.ld_base.specs.declared.phases.Phases.{Phases}
 use Rattle.phasor.specs.Point.{Point, origin, plus, scaled}
 use Rattle.phasor.specs.Sum.{of_three, phase_of, no_current}

@@ -2,6 +2,10 @@
 use Rattle.std.specs.Prelude.{ℕ, ◌+◌, ◌-◌, ◌/◌, ◌%◌, ℤ, pos, neg_ℤ, nat_le, ◌==◌, if◌then◌else◌, List, [], ◌∷◌, slice_index_or}
 use Rattle.phasor.specs.Point.{Point, scaled}
 
+-- what the cosine of no turn is rounded to
+abbrev pub scale : ℕ
+scale = 16384
+
 -- the cosines of the first quarter turn, its end included
 abbrev pub quarter : ℕ → List ℤ
 quarter c =

@@ -1,6 +1,6 @@
 //! How the sums change from set to set.
 
-ghost use Rattle.std.specs.Prelude.{◌≡◌, ◌+◌, ◌≤◌, ◌^◌, ◌-ℤ◌, ◌*ℤ◌, ℕ, slice_index_or, unsigned_abs};
+ghost use Rattle.std.specs.Prelude.{◌≡◌, ◌+◌, ◌≤◌, ◌^◌, ◌-ℤ◌, ◌*ℤ◌, ℕ, slice_index_or, true, unsigned_abs};
 ghost use Rattle.phasor.specs.Changes.{changed, changed_station, no_sums};
 ghost use Rattle.phasor.specs.Point.{IsWithin, origin, plus, scaled};
 ghost use Rattle.phasor.specs.Sizes.{AreWithin, AreSamples, IsSample, factor_bits, sample_bits, sum_bits};
@@ -29,13 +29,41 @@ pub(crate) fn changed<L: Ledger>(
     requires factor { IsWithin factor_bits factor }
     ensures sums { result ≡ changed sums.now newest.now oldest.now factor }
     ensures in_range { AreSamples newest.now }
-    ensures steps { steps.new ≡ steps.old + 18 }
+    ensures steps { steps.new ≤ steps.old + 18 }
 {
     [
         changed_station(&sums[0], &newest[0], &oldest[0], factor, steps),
         changed_station(&sums[1], &newest[1], &oldest[1], factor, steps),
-        changed_station(&sums[2], &newest[2], &oldest[2], factor, steps),
+        changed_if_there(&sums[2], &newest[2], &oldest[2], factor, steps),
     ]
+}
+
+// The same of a station that may not be there: where its values stay, so do its sums.
+fn changed_if_there<L: Ledger>(
+    sums: &[Phasor; 3],
+    newest: &Phases,
+    oldest: &Phases,
+    factor: Phasor,
+    steps: &mut Steps<L>,
+) -> [Phasor; 3]
+    requires size { (phase : ℕ) → IsWithin sum_bits (slice_index_or sums.now phase origin) }
+    requires factor { IsWithin factor_bits factor }
+    ensures sums { result ≡ changed_station sums.now newest.now oldest.now factor }
+    ensures in_range { IsSample newest.now }
+    ensures steps { steps.new ≤ steps.old + 6 }
+{
+    if is_same(*newest, *oldest) {
+        *sums
+    } else {
+        changed_station(sums, newest, oldest, factor, steps)
+    }
+}
+
+fn is_same(newest: Phases, oldest: Phases) -> bool
+    ensures same { result ≡ true → newest ≡ oldest }
+    ensures in_range { IsSample newest }
+{
+    newest == oldest
 }
 
 // The same of one station.

@@ -12,7 +12,8 @@ abbrev at_phase : ℕ → List Point → Point
 at_phase phase station = slice_index_or station phase origin
 
 -- the sums of a phase, read one by one
-pub column_read : (sums : List (List Point)) (stations phase : ℕ) (a b c : Point) → length sums ≡ 3 → phase < length (slice_index_or sums 0 [])
+pub column_read : (sums : List (List Point)) (stations phase : ℕ) (a b c : Point) → length sums ≡ 3
+    → phase < length (slice_index_or sums 0 [])
     → phase < length (slice_index_or sums 1 []) → phase < length (slice_index_or sums 2 [])
     → take stations (slice_index_or (slice_index_or sums 0 []) phase a ∷ slice_index_or (slice_index_or sums 1 []) phase b
     ∷ slice_index_or (slice_index_or sums 2 []) phase c ∷ [])
@@ -26,7 +27,8 @@ column_read (x ∷ y ∷ z ∷ []) stations phase a b c three ha hb hc =
 column_read (x ∷ y ∷ z ∷ u ∷ more) stations phase a b c three ha hb hc = absurd (omega arith)
 
 -- they are no larger than all sums
-pub All-column : (bits : ℕ) (sums : List (List Point)) (stations phase : ℕ) → AreWithin bits sums → All (IsWithin bits) (column stations phase sums)
+pub All-column : (bits : ℕ) (sums : List (List Point)) (stations phase : ℕ) → AreWithin bits sums
+    → All (IsWithin bits) (column stations phase sums)
 All-column bits sums stations phase size =
     All-map (IsWithin bits) (at_phase phase) (take stations sums)
     (All-take (λ station. IsWithin bits (at_phase phase station)) stations sums (λ k d within. rw (get_or_default sums k d [] within) (size k phase)))

@@ -11,7 +11,7 @@ use Rattle.phasor.specs.Window as window
 use Rattle.phasor.proofs.Threes.{of_three_at}
 use Rattle.trip_logic.specs.declared.verdict.Verdict.TheVariants.{Waiting}
 use Rattle.trip_logic.specs.Progress.{Progress, IsRun, StandsFor, most_recent}
-use Rattle.trip_logic.specs.Steps.{phases_outside, is_known_outside, runs_after, verdict_of, verdicts_of}
+use Rattle.trip_logic.proofs.Steps.{phases_outside, is_known_outside, runs_after, verdict_of, verdicts_of}
 use Rattle.trip_logic.specs.TripAt.{is_outside, are_outside, verdict, verdicts}
 use Rattle.trip_logic.proofs.Recents.{AreLast-push}
 use Rattle.trip_logic.proofs.Runs.{IsRun-push, verdict_by_run}

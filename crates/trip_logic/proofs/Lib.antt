@@ -4,4 +4,5 @@ pub mod Outs
 pub mod Recents
 pub mod Regions
 pub mod Runs
+pub mod Steps
 pub mod Through

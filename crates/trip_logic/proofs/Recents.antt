@@ -1,5 +1,5 @@
 -- The last sets judged, after one set more, and read from the last one back.
-use Rattle.std.proofs.Common.{◌≡◌, ◌∙◌, sym, ap, refl, ℕ, suc, ◌+◌, ◌-◌, ◌<◌, ◌≤◌, min, Bool, true, false, if◌then◌else◌, List, [], ◌∷◌, ◌++◌, length, take, drop, reverse, Option, Some, None, slice_get, get_or, append_assoc, length-append, length-drop, take-append-drop, inl, inr, arith}
+use Rattle.std.proofs.Common.{◌≡◌, ◌∙◌, sym, ap, refl, ℕ, ◌+◌, ◌-◌, ◌<◌, ◌≤◌, if◌then◌else◌, List, [], ◌∷◌, ◌++◌, length, take, drop, reverse, Some, None, slice_get, get_or, append_assoc, length-append, length-drop, take-append-drop, inl, inr, arith}
 use Rattle.std.specs.Prelude.{nat_lt}
 use Rattle.std.proofs.lemmas.Bool.{cases_lt, lt-ltb, le-ltb}
 use Rattle.std.proofs.lemmas.List.{length_push, length-reverse, get_or-reverse, get_or-append_right}
@@ -23,7 +23,8 @@ AreLast-push most judged recent set last =
     }
 
 -- a set that is read back from the last one
-read_back : (sets : List SampleSet) (back : ℕ) (d : SampleSet) → back < length sets → slice_get (reverse sets) back ≡ slice_get sets (length sets - back - 1)
+read_back : (sets : List SampleSet) (back : ℕ) (d : SampleSet) → back < length sets
+    → slice_get (reverse sets) back ≡ slice_get sets (length sets - back - 1)
 read_back sets back d within =
     let inside : back < length (reverse sets) = omega (arith, length-reverse sets) in
     let place : length sets - 1 - back ≡ length sets - back - 1 = omega arith in

@@ -9,7 +9,7 @@ use Rattle.phasor.specs.Sum.{Sums}
 use Rattle.phasor.specs.Window.{Kept, StandsFor}
 use Rattle.trip_logic.specs.declared.verdict.Verdict.TheVariants.{Waiting, Restrain, Outside, Trip}
 use Rattle.trip_logic.specs.Progress.{IsRun}
-use Rattle.trip_logic.specs.Steps.{run_after, verdict_of}
+use Rattle.trip_logic.proofs.Steps.{run_after, verdict_of}
 use Rattle.trip_logic.specs.TripAt.{Out, outs_before, TripAt, verdict}
 use Rattle.trip_logic.proofs.Outs.{outs_before-push, outs_before-fewer, Out-next}
 
@@ -32,7 +32,8 @@ IsRun-none : (f : Fields) (judged : List SampleSet) (phase n : ℕ) → Out f ju
 IsRun-none f judged phase n inside = record { capped = omega arith; outside = refl; ends = λ room. rw inside refl }
 
 -- the run of a phase after one set more
-pub IsRun-push : (f : Fields) (judged : List SampleSet) (set : SampleSet) (window : Kept) (phase run : ℕ) → StandsFor window judged → 1 < f.cycle
+pub IsRun-push : (f : Fields) (judged : List SampleSet) (set : SampleSet) (window : Kept) (phase run : ℕ) → StandsFor window judged
+    → 1 < f.cycle
     → window.next ≤ set.number → IsRun f judged window.next phase run
     → IsRun f (judged ++ set ∷ []) (suc set.number) phase (run_after run (Out f (judged ++ set ∷ []) phase set.number) f.count)
 IsRun-push f judged set window phase run stands long later before = by_out (Out f (judged ++ set ∷ []) phase set.number) refl

@@ -6,6 +6,7 @@ use Rattle.std.proofs.lemmas.Bool.{le-ltb}
 use Rattle.std.proofs.lemmas.Int.{ints}
 use Rattle.ld_base.specs.declared.fields.Fields.{Fields}
 use Rattle.ld_base.specs.declared.phases.SampleSet.{SampleSet}
+use Rattle.phasor.specs.Factors.{scale}
 use Rattle.phasor.specs.Point.{Point, origin, plus, total}
 use Rattle.phasor.specs.Sum.{of_three, sets_before, current, sum_of, sums_of}
 use Rattle.phasor.proofs.Linear.{sum_of-plus, sum_of-zero}
@@ -64,21 +65,24 @@ module _ (c phase : ℕ) (sets : List SampleSet) (within : phase < 3) where
   total-column (suc (suc (suc (suc stations)))) = total-column_all
 
 -- so it is zero where these are
-total-zero : (c phase : ℕ) (sets : List SampleSet) (stations : ℕ) → phase < 3 → All (λ set. sum_over_stations stations phase set ≡ pos 0) sets
+total-zero : (c phase : ℕ) (sets : List SampleSet) (stations : ℕ) → phase < 3
+    → All (λ set. sum_over_stations stations phase set ≡ pos 0) sets
     → total (column stations phase (sums_of c sets)) ≡ origin
 total-zero c phase sets stations within all =
     total-column c phase sets within stations ∙ sum_of-zero c (sum_over_stations stations phase) sets all
 
 -- no differential current passes no pickup
-pub Out-through : (f : Fields) (judged : List SampleSet) (phase n : ℕ) → phase < 3 → IsThrough f judged phase n → Out f judged phase n ≡ false
+pub Out-through : (f : Fields) (judged : List SampleSet) (phase n : ℕ) → phase < 3 → IsThrough f judged phase n
+    → Out f judged phase n ≡ false
 Out-through f judged phase n within through =
     by (sets_before judged f.cycle (suc n))
     (λ all. All-sets_before (λ set. sum_over_stations f.stations phase set ≡ pos 0) judged f.cycle (suc n) all (λ k from below. through k (omega arith) (omega arith)))
   where
-    by : (sets : Option (List SampleSet)) → ((all : List SampleSet) → sets ≡ Some all → All (λ set. sum_over_stations f.stations phase set ≡ pos 0) all)
+    by : (sets : Option (List SampleSet))
+        → ((all : List SampleSet) → sets ≡ Some all → All (λ set. sum_over_stations f.stations phase set ≡ pos 0) all)
         → are_outside f phase (option_map (sums_of f.cycle) sets) ≡ false
     by None all_zero = refl
     by (Some sets) all_zero =
         let none = total-zero f.cycle phase sets f.stations within (all_zero sets refl) in
-        ap (λ p. nat_lt (square (f.pickup * f.cycle * 16384)) (4 * norm p) && each_outside (sector_of f) [] (column f.stations phase (sums_of f.cycle sets))) none
+        ap (λ p. nat_lt (square (f.pickup * f.cycle * scale)) (4 * norm p) && each_outside (sector_of f) [] (column f.stations phase (sums_of f.cycle sets))) none
         ∙ ap (λ b. b && each_outside (sector_of f) [] (column f.stations phase (sums_of f.cycle sets))) (le-ltb _ _ (omega arith))

@@ -1,12 +1,13 @@
-ghost use Rattle.std.specs.Prelude.{◌≡◌, ℕ, ◌<◌, ◌≤◌, ◌+◌, ◌++◌, [], ◌∷◌, List, IfOk, option_copied};
+ghost use Rattle.std.specs.Prelude.{◌≡◌, ℕ, ◌<◌, ◌≤◌, ◌+◌, ◌++◌, [], ◌∷◌, ◌==◌, List, IfOk, false, if◌then◌else◌, is_none, min, nat_lt, option_copied, option_map, slice_index, slice_index_or, unwrap_or};
 ghost use Rattle.std.specs.Option.{ForSome};
 ghost use Rattle.ld_base.specs.Settings.{AreInRange};
 ghost use Rattle.ld_base.specs.declared.phases.SampleSet.{SampleSet};
 ghost use Rattle.phasor.specs.Sizes.{AreWithin, sum_bits};
+ghost use Rattle.phasor.specs.Sum.{of_three};
 ghost use Rattle.phasor.specs.Window as window;
 ghost use Rattle.trip_logic.specs.Cause.{cause};
 ghost use Rattle.trip_logic.specs.Progress.{StandsFor};
-ghost use Rattle.trip_logic.specs.Steps.{phases_outside, run_after, runs_after, verdict_of, verdicts_of};
+ghost use Rattle.trip_logic.specs.declared.verdict.Verdict.TheVariants as verdict;
 ghost use Rattle.trip_logic.specs.TripAt.{is_outside, sector_of, verdicts};
 
 use crate::Verdict;
@@ -117,7 +118,7 @@ fn phases_outside(
     requires region { region.now ≡ sector_of fields.now }
     requires in_range { AreInRange fields.now }
     requires size { ForSome sums (AreWithin sum_bits) }
-    ensures { result ≡ phases_outside fields.now sums }
+    ensures { result ≡ option_map (λ sums. of_three (λ phase. is_outside fields.now phase sums)) sums }
 {
     let sums = sums?;
     Some([
@@ -142,7 +143,8 @@ fn is_outside(fields: &Fields, region: &Region, sums: &[[Phasor; 3]; 3], phase: 
 
 // How many consecutive sets were outside, up to `count`, after one more.
 fn runs_after(runs: &[u8; 3], outside: Option<[bool; 3]>, count: u8) -> [u8; 3]
-    ensures { result ≡ runs_after runs.now outside count }
+    ensures { result ≡ of_three (λ phase. if unwrap_or (option_map (λ flags. slice_index_or flags phase false) outside) false
+        then min count (slice_index runs.now phase + 1) else 0) }
 {
     match outside {
         None => [0; 3],
@@ -155,7 +157,7 @@ fn runs_after(runs: &[u8; 3], outside: Option<[bool; 3]>, count: u8) -> [u8; 3]
 }
 
 fn run_after(run: u8, outside: bool, count: u8) -> u8
-    ensures { result ≡ run_after run outside count }
+    ensures { result ≡ (if outside then min count (run + 1) else 0) }
 {
     if outside {
         count.min(run.saturating_add(1))
@@ -166,7 +168,10 @@ fn run_after(run: u8, outside: bool, count: u8) -> u8
 
 // The verdicts after these runs of consecutive sets outside.
 fn verdicts_of(runs: &[u8; 3], outside: Option<[bool; 3]>, count: u8) -> [Verdict; 3]
-    ensures { result ≡ verdicts_of runs.now outside count }
+    ensures { result ≡ of_three (λ phase. if is_none outside then verdict.Waiting
+        else if slice_index runs.now phase == count then verdict.Trip
+        else if nat_lt 0 (slice_index runs.now phase) then verdict.Outside
+        else verdict.Restrain) }
 {
     match outside {
         None => [Verdict::Waiting; 3],
@@ -179,7 +184,7 @@ fn verdicts_of(runs: &[u8; 3], outside: Option<[bool; 3]>, count: u8) -> [Verdic
 }
 
 fn verdict_of(run: u8, count: u8) -> Verdict
-    ensures { result ≡ verdict_of run count }
+    ensures { result ≡ (if run == count then verdict.Trip else if nat_lt 0 run then verdict.Outside else verdict.Restrain) }
 {
     if run == count {
         Verdict::Trip

@@ -1,4 +1,4 @@
-use Rattle.std.proofs.Common.{refl, arith}
+use Rattle.std.proofs.Common.{refl}
 use Rattle.phasor.proofs.Rings.{length-sets_below}
 use Rattle.phasor.proofs.ring.Ring.is_full.Goals as goal
 

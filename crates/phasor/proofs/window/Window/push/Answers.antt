@@ -1,5 +1,5 @@
 -- The ring's clause says which sets stay, and the sums change with them.
-use Rattle.std.specs.Prelude.{◌≡◌, ◌<◌, ◌≤◌, length}
+use Rattle.std.specs.Prelude.{◌≤◌, length}
 use Rattle.std.proofs.Common.{option_map, ap, arith}
 use Rattle.phasor.specs.Sum.{sums_of}
 use Rattle.phasor.proofs.Cycles.{cycle_positive, cycle_short}

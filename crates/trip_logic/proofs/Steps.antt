@@ -1,5 +1,5 @@
--- How a trip rule goes on from set to set: which phases are outside, the runs of consecutive sets outside, and the verdicts.
-use Rattle.std.specs.Prelude.{ℕ, ◌+◌, min, nat_lt, ◌==◌, Bool, false, if◌then◌else◌, List, Option, Some, None, option_map, is_none, slice_index, slice_index_or}
+-- How the trip rule goes on from set to set, as its private functions answer: which phases are outside, the runs of consecutive sets outside, and the verdicts.
+use Rattle.std.specs.Prelude.{ℕ, ◌+◌, min, nat_lt, ◌==◌, Bool, false, if◌then◌else◌, List, Option, option_map, unwrap_or, is_none, slice_index, slice_index_or}
 use Rattle.ld_base.specs.declared.fields.Fields.{Fields}
 use Rattle.phasor.specs.Point.{Point}
 use Rattle.phasor.specs.Sum.{of_three}
@@ -13,8 +13,7 @@ phases_outside f sums = option_map (λ sums. of_three (λ phase. is_outside f ph
 
 -- whether a phase is known to be outside
 abbrev pub is_known_outside : Option (List Bool) → ℕ → Bool
-is_known_outside None phase = false
-is_known_outside (Some outside) phase = slice_index_or outside phase false
+is_known_outside outside phase = unwrap_or (option_map (λ flags. slice_index_or flags phase false) outside) false
 
 -- how many consecutive sets were outside, up to `count`, after one more
 abbrev pub run_after : ℕ → Bool → ℕ → ℕ
