@@ -1,0 +1,4 @@
+pub mod Bounded
+pub mod Clock
+pub mod Exchange
+pub mod Reading

@@ -1,0 +1,47 @@
+ghost use Rattle.std.specs.Prelude.{◌≡◌};
+ghost use Rattle.pingpong.specs.Exchange.{estimate2, round_trip};
+
+use std::marker::Model;
+
+/// One exchange of a station with a peer: the four stamps of a message there and one back, in ticks, each below 2^48.
+/// (Channel-based alignment of IEEE C37.243.)
+#[derive(Clone, Copy, Debug, PartialEq, Eq, Hash)]
+pub struct Exchange {
+    /// The own stamp at which the first message was sent.
+    pub a1: u64,
+    /// The peer's stamp at which it came.
+    pub b2: u64,
+    /// The peer's stamp at which the second message was sent.
+    pub b3: u64,
+    /// The own stamp at which that came.
+    pub a4: u64,
+}
+
+impl Model for Exchange {
+    ghost use Rattle.pingpong.specs.Exchange.{Stamps, AreStamps};
+
+    ghost Value = { Stamps };
+
+    ghost view = { λ e. record { a1 = e.a1; b2 = e.b2; b3 = e.b3; a4 = e.a4 } };
+
+    ghost invariant = { λ e. AreStamps (record { a1 = e.a1; b2 = e.b2; b3 = e.b3; a4 = e.a4 }) };
+
+    ghost inverse = { λ e. record { a1 = e.a1; b2 = e.b2; b3 = e.b3; a4 = e.a4 } };
+}
+
+impl Exchange {
+    /// Twice the offset of the peer's clock for the own one, in ticks, if both messages took equally long:
+    /// `(b2 - a1) + (b3 - a4)`.
+    pub fn estimate2(&self) -> i64
+        ensures { result ≡ estimate2 self.now }
+    {
+        (self.b2 as i64 - self.a1 as i64) + (self.b3 as i64 - self.a4 as i64)
+    }
+
+    /// The ticks that both messages took together, by both clocks: `(a4 - a1) - (b3 - b2)`. Negative where a stamp is wrong.
+    pub fn round_trip(&self) -> i64
+        ensures { result ≡ round_trip self.now }
+    {
+        (self.a4 as i64 - self.a1 as i64) - (self.b3 as i64 - self.b2 as i64)
+    }
+}
