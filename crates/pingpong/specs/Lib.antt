@@ -1,4 +1,5 @@
 pub mod Bounded
 pub mod Clock
 pub mod Exchange
+pub mod Hand
 pub mod Reading

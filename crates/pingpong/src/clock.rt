@@ -2,7 +2,10 @@ ghost use Rattle.std.specs.Prelude.{◌≡◌, ◌+◌, ◌*◌, ◌≤◌, ◌/
 ghost use Rattle.std.specs.List.Sorted.{IsNonDecreasingBy};
 ghost use Rattle.pingpong.specs.Clock.{IsCourse, gain, phase};
 
+mod hand;
+
 use arrayvec::ArrayVec;
+pub use hand::Hand;
 use std::marker::Model;
 
 /// Millionths of a tick.
@@ -65,6 +68,7 @@ impl Clock {
     pub fn phase(&self, t: u64) -> u64
         requires { t ≤ 60000000 }
         ensures phase { result ≡ phase self.now t }
+        ensures most { result ≤ 1000000000000000000 + 1000200 * t }
         ensures stamp { result / 1000000 ≤ 2000000000000 }
     {
         phase_at(self.start, self.rates.as_slice(), t)

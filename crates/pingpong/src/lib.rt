@@ -5,7 +5,7 @@ mod clock;
 mod exchange;
 pub mod laws;
 
-pub use clock::{Clock, RateFrom};
+pub use clock::{Clock, Hand, RateFrom};
 pub use exchange::Exchange;
 
 #[cfg(test)]
