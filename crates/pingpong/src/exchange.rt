@@ -45,3 +45,19 @@ impl Exchange {
         (self.a4 as i64 - self.a1 as i64) - (self.b3 as i64 - self.b2 as i64)
     }
 }
+
+/// The exchange whose stamps are all 0.
+impl Default for Exchange {
+    ghost use Rattle.std.specs.Prelude.{◌≡◌};
+
+    ghost is_default = { λ e. e ≡ record { a1 = 0; b2 = 0; b3 = 0; a4 = 0 } };
+
+    fn default() -> Exchange {
+        Exchange {
+            a1: 0,
+            b2: 0,
+            b3: 0,
+            a4: 0,
+        }
+    }
+}
