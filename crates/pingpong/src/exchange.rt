@@ -1,6 +1,7 @@
 ghost use Rattle.std.specs.Prelude.{◌≡◌};
-ghost use Rattle.pingpong.specs.Exchange.{estimate2, round_trip};
+ghost use Rattle.pingpong.specs.Exchange.{estimate2, exchange_of, round_trip};
 
+use ld_base::{Message, Ticks};
 use std::marker::Model;
 
 /// One exchange of a station with a peer: the four stamps of a message there and one back, in ticks, each below 2^48.
@@ -44,6 +45,21 @@ impl Exchange {
     {
         (self.a4 as i64 - self.a1 as i64) - (self.b3 as i64 - self.b2 as i64)
     }
+}
+
+/// The exchange that a message completes where it is accepted at the stamp `a4`. None exactly where the message has no echo.
+/// Else `a1` is the echoed send stamp, `b2` the stamp at which that message came to the peer, and `b3` the message's own send
+/// stamp.
+pub fn exchange_of(m: &Message, a4: Ticks) -> Option<Exchange>
+    ensures { result ≡ exchange_of m.now a4 }
+{
+    let echo = m.echo?;
+    Some(Exchange {
+        a1: echo.sent,
+        b2: echo.came,
+        b3: m.sent,
+        a4: a4.get(),
+    })
 }
 
 /// The exchange whose stamps are all 0.

@@ -3,10 +3,12 @@
 
 mod clock;
 mod exchange;
+mod journal;
 pub mod laws;
 
 pub use clock::{Clock, Hand, RateFrom};
-pub use exchange::Exchange;
+pub use exchange::{Exchange, exchange_of};
+pub use journal::{Entry, What};
 
 #[cfg(test)]
 mod tests;
