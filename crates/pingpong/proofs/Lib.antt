@@ -1,3 +1,6 @@
 pub mod Bounds
-pub mod Clocks
+pub mod Gains
 pub mod Journals
+pub mod Lines
+pub mod Paces
+pub mod Turns

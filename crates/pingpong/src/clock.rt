@@ -88,8 +88,8 @@ fn phase_at(start: u64, rates: &[RateFrom], t: u64) -> u64
     for entry in rates {
         let until = entry.from.min(t);
         phase += gain * (until - at);
-        at = until;
         gain = gain_of(entry.rate);
+        at = until;
     }
     phase + gain * (t - at)
 }

@@ -1,5 +1,5 @@
 use Rattle.std.proofs.Common.{take_all, arith, rules}
-use Rattle.pingpong.proofs.Clocks.{in_turn-more, last-more}
+use Rattle.pingpong.proofs.Turns.{in_turn-more, last-more}
 use Rattle.pingpong.proofs.clock.are_in_turn.Goals as goal
 
 pub loop-entry-preserved : goal.loop-entry-preserved

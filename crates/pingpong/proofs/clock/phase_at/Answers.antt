@@ -1,7 +1,8 @@
 use Rattle.std.proofs.Common.{FitsSigned, w32, ap, ◌∙◌, arith, rules}
 use Rattle.std.proofs.lemmas.Int.{to_z-of_z}
 use Rattle.pingpong.specs.Clock.{gain}
-use Rattle.pingpong.proofs.Clocks.{IsLine-none, IsLine-more, in_turn-next, line_end, line_most}
+use Rattle.pingpong.proofs.Lines.{IsLine-none, IsLine-more, line_end, line_most}
+use Rattle.pingpong.proofs.Turns.{in_turn-next}
 use Rattle.pingpong.proofs.clock.phase_at.Goals as goal
 
 pub loop-entry-init : goal.loop-entry-init

@@ -1,6 +1,6 @@
-use Rattle.std.proofs.Common.{ℕ, ◌<◌, ◌≤◌, length, take, slice_index_or}
+use Rattle.std.proofs.Common.{◌<◌, ◌≤◌, length, take, slice_index_or}
 use Rattle.pingpong.specs.declared.clock.RateFrom.{RateFrom}
-use Rattle.pingpong.proofs.Clocks.{IsLine}
+use Rattle.pingpong.proofs.Lines.{IsLine}
 use Rattle.pingpong.proofs.clock.phase_at.Given as goal
 
 -- the line of the rates so far, and that the next one begins no earlier than it

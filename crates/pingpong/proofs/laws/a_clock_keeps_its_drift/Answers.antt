@@ -1,4 +1,4 @@
-use Rattle.pingpong.proofs.Clocks.{WithinDrift-phase}
+use Rattle.pingpong.proofs.Gains.{WithinDrift-phase}
 use Rattle.pingpong.proofs.laws.a_clock_keeps_its_drift.Goals as goal
 
 pub returns : goal.returns

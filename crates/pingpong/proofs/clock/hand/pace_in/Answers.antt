@@ -1,4 +1,4 @@
-use Rattle.pingpong.proofs.Clocks.{IsPace-now, IsPace-most}
+use Rattle.pingpong.proofs.Paces.{IsPace-now, IsPace-most}
 use Rattle.pingpong.proofs.clock.hand.pace_in.Goals as goal
 
 pub returns-else-rates-passed-clause-gain : goal.returns-else-rates-passed-clause-gain
