@@ -51,10 +51,10 @@ Bounded-passage drift p own peer holds =
     let came = rw (← holds.now) at (seen drift p.came peer holds.peer_since_came) in
     let turned = rw (← holds.now) at (seen drift p.turned peer holds.peer_since_turned) in
     let near = within _ _ _ _ own.phase peer.phase _ _ _ _ _ _ _ _
-    (younger _ _ now holds.there) (younger _ _ now holds.held) (younger _ _ now holds.home)
-    (drifts drift _ _ now holds.there) (drifts drift _ _ now holds.held) (drifts drift _ _ now holds.home)
+    (younger _ _ now holds.order.there) (younger _ _ now holds.order.held) (younger _ _ now holds.order.home)
+    (drifts drift _ _ now holds.order.there) (drifts drift _ _ now holds.order.held) (drifts drift _ _ now holds.order.home)
     (seen drift p.sent own holds.own_since_sent) came turned (seen drift p.back own holds.own_since_back) in
-    let there = ages p.sent.time p.came.time now holds.there (omega (arith, holds.own_since_back.order)) in
-    let home = ages p.turned.time p.back.time now holds.home holds.own_since_back.order in
+    let there = ages p.sent.time p.came.time now holds.order.there (omega (arith, holds.own_since_back.order)) in
+    let home = ages p.turned.time p.back.time now holds.order.home holds.own_since_back.order in
     let near = rw (there, home) at near in
     omega (arith, signed _ _ _ _ own.phase peer.phase _ near)

@@ -1,11 +1,11 @@
 -- Entries of a journal, and an exchange among them.
 use Rattle.std.specs.Prelude.{ℕ, ◌-◌, List, Some, slice_get}
 use Rattle.std.proofs.Common.{◌≡◌, ◌≤◌, inl, inr, refl, sym, ◌∙◌, arith}
-use Rattle.std.proofs.lemmas.Bool.{cases_order}
+use Rattle.std.proofs.lemmas.Bool.{cases_lt, cases_order}
 use Rattle.std.proofs.lemmas.Option.{get_or_from_slice_get, slice_get_within}
 use Rattle.pingpong.specs.Bounded.{IsPassage}
 use Rattle.pingpong.specs.Journal.{read_at, Follows, IsJournal, passage, Happened}
-use Rattle.pingpong.specs.Reading.{Reading, WithinDrift}
+use Rattle.pingpong.specs.Reading.{Reading, WithinDrift, SameClock}
 use Rattle.pingpong.specs.declared.journal.Entry.{Entry}
 
 WithinDrift-self : (drift : ℕ) (reading : Reading) → WithinDrift drift reading reading
@@ -38,12 +38,23 @@ IsPassage-in drift journal sent came turned back now follows at station peer is_
     let since_turned = follow at.place_turned at.place_now turned now (omega arith) at.is_turned at.is_now in
     let since_back = follow at.place_back at.place_now back now at.since at.is_back at.is_now in
     record {
-      there = (follow at.place_sent at.place_came sent came at.there at.is_sent at.is_came).order;
-      held = (follow at.place_came at.place_turned came turned at.held at.is_came at.is_turned).order;
-      home = (follow at.place_turned at.place_back turned back at.home at.is_turned at.is_back).order;
+      order = record {
+        there = (follow at.place_sent at.place_came sent came at.there at.is_sent at.is_came).order;
+        held = (follow at.place_came at.place_turned came turned at.held at.is_came at.is_turned).order;
+        home = (follow at.place_turned at.place_back turned back at.home at.is_turned at.is_back).order;
+        over = since_back.order;
+      };
       now = refl;
       own_since_sent = since_sent.clocks station is_station.0 is_station.1;
       own_since_back = since_back.clocks station is_station.0 is_station.1;
       peer_since_came = since_came.clocks peer is_peer.0 is_peer.1;
       peer_since_turned = since_turned.clocks peer is_peer.0 is_peer.1;
     }
+
+pub SameClock-in : (drift : ℕ) (journal : List Entry) (i j : ℕ) (one other : Entry) → IsJournal drift journal
+    → slice_get journal i ≡ Some one → slice_get journal j ≡ Some other → (station : ℕ) → (1 ≤ station) × (station ≤ 3)
+    → SameClock drift (read_at station one) (read_at station other)
+SameClock-in drift journal i j one other follows is_one is_other station is_station = elim (cases_lt i j) [
+  | inl before ↦ inl ((Follows-in drift journal i j one other follows (omega arith) is_one is_other).clocks station is_station.0 is_station.1)
+  | inr behind ↦ inr ((Follows-in drift journal j i other one follows behind is_other is_one).clocks station is_station.0 is_station.1)
+]

@@ -20,11 +20,16 @@ stamps p = record { a1 = stamp p.sent; b2 = stamp p.came; b3 = stamp p.turned; a
 abbrev pub asymmetry : Passage → ℕ
 asymmetry p = abs_diff (p.came.time - p.sent.time) (p.back.time - p.turned.time)
 
--- the four moments are in order, and both clocks, which are read again at one time, kept within their drift until then
-pub record IsPassage (drift : ℕ) (p : Passage) (own peer : Reading) : Type 0 where
+-- its four moments are in order, and over by a true time
+pub record IsInOrder (p : Passage) (now : ℕ) : Type 0 where
   pub there : p.sent.time ≤ p.came.time
   pub held : p.came.time ≤ p.turned.time
   pub home : p.turned.time ≤ p.back.time
+  pub over : p.back.time ≤ now
+
+-- both clocks, which are read again at one time, kept within their drift until then
+pub record IsPassage (drift : ℕ) (p : Passage) (own peer : Reading) : Type 0 where
+  pub order : IsInOrder p own.time
   pub now : own.time ≡ peer.time
   pub own_since_sent : WithinDrift drift p.sent own
   pub own_since_back : WithinDrift drift p.back own

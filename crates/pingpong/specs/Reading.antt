@@ -1,5 +1,5 @@
 -- Clocks as true time sees them. True time is a whole number of ticks, a phase counts millionths of a tick. (This project's own.)
-use Rattle.std.specs.Prelude.{ℕ, ◌+◌, ◌-◌, ◌*◌, ◌/◌, ◌≤◌, ℤ, pos, ◌-ℤ◌}
+use Rattle.std.specs.Prelude.{ℕ, ◌+◌, ◌-◌, ◌*◌, ◌/◌, ◌≤◌, ◌⊎◌, ℤ, pos, ◌-ℤ◌}
 
 -- a clock read at a true time
 pub record Reading : Type 0 where
@@ -19,3 +19,7 @@ pub record WithinDrift (drift : ℕ) (earlier later : Reading) : Type 0 where
   pub order : earlier.time ≤ later.time
   pub most : later.phase ≤ earlier.phase + (1000000 + drift) * (later.time - earlier.time)
   pub least : earlier.phase + 1000000 * (later.time - earlier.time) ≤ later.phase + drift * (later.time - earlier.time)
+
+-- two readings of one clock, in either order
+abbrev pub SameClock : ℕ → Reading → Reading → Type 0
+SameClock drift a b = WithinDrift drift a b ⊎ WithinDrift drift b a

@@ -4,7 +4,7 @@ ghost use Rattle.std.specs.Prelude.{◌≡◌, ℕ, ◌≤◌, List, All, Some, 
 ghost use Rattle.pingpong.specs.Bounded.{Passage, IsPassage, Bounded};
 ghost use Rattle.pingpong.specs.Clock.{Course, reading};
 ghost use Rattle.pingpong.specs.Journal.{Follows, Happened, IsJournal, passage, read_at};
-ghost use Rattle.pingpong.specs.Reading.{Reading, WithinDrift};
+ghost use Rattle.pingpong.specs.Reading.{Reading, SameClock, WithinDrift};
 ghost use Rattle.pingpong.specs.declared.journal.Entry.{Entry};
 
 /// The bound of one exchange: the estimate is off by at most half its asymmetry, the drift of the clocks since it began, and a
@@ -19,10 +19,13 @@ pub fn a_clock_keeps_its_drift()
         → WithinDrift drift (reading course first) (reading course last) }
 {}
 
-/// An entry of a journal follows each that isn't behind it.
+/// An entry of a journal follows each that isn't behind it, and at any two a station's clock is one clock.
 pub fn entries_follow_each_other()
-    ensures { (drift : ℕ) (journal : List Entry) (i j : ℕ) (earlier later : Entry) → IsJournal drift journal → i ≤ j
+    ensures follow { (drift : ℕ) (journal : List Entry) (i j : ℕ) (earlier later : Entry) → IsJournal drift journal → i ≤ j
         → slice_get journal i ≡ Some earlier → slice_get journal j ≡ Some later → Follows drift earlier later }
+    ensures one_clock { (drift : ℕ) (journal : List Entry) (i j : ℕ) (one other : Entry) → IsJournal drift journal
+        → slice_get journal i ≡ Some one → slice_get journal j ≡ Some other → (station : ℕ) → (1 ≤ station) × (station ≤ 3)
+        → SameClock drift (read_at station one) (read_at station other) }
 {}
 
 /// The bound of one exchange whose messages were sent and came at entries of a journal, seen from any later entry.
