@@ -47,9 +47,10 @@ AreNear-aligned spacing drift p own peer n m now are =
     let age = age_of_all p own peer now in
     let order = are.order in
     let by = halves spacing n m _ _ _ _ are.aligned in
-    near p.sent p.came p.turned p.back own peer spacing (n * spacing) (m * spacing) (drift * age)
+    let close = near p.sent p.came p.turned p.back own peer spacing (n * spacing) (m * spacing) (drift * age)
     (alike drift p.sent own age (omega arith) (omega arith) are.own_sent)
     (alike drift p.back own age (omega arith) (omega arith) are.own_back)
     (alike drift p.came peer age (omega arith) (omega arith) are.peer_came)
     (alike drift p.turned peer age (omega arith) (omega arith) are.peer_turned)
-    order.there order.home are.own_sample.since are.own_sample.until are.peer_sample.since are.peer_sample.until by.low by.high
+    order.there order.home are.own_sample.since are.own_sample.until are.peer_sample.since are.peer_sample.until by.low by.high in
+    omega (arith, close)
