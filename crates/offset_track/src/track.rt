@@ -1,4 +1,4 @@
-ghost use Rattle.std.specs.Prelude.{◌≡◌, ◌≤◌, ◌++◌, [], ◌∷◌, List, option_map, if◌then◌else◌, IsTrue, MatchOption, int_lt};
+ghost use Rattle.std.specs.Prelude.{◌≡◌, ◌≤◌, ◌++◌, [], ◌∷◌, List, option_map, if◌then◌else◌, ◌<◌, ◌^◌, MatchOption, int_lt, unsigned_abs};
 ghost use Rattle.offset_track.specs.InForce.{InForce, chosen, is_candidate, is_slow};
 ghost use Rattle.offset_track.specs.Track.{StandsFor, with_exchange};
 ghost use Rattle.pingpong.specs.Exchange.{Stamps, estimate2, round_trip};
@@ -72,7 +72,8 @@ impl Fresh {
 
     /// Twice the offset of the peer's clock for the own one by this exchange, in ticks.
     pub fn estimate2(&self) -> i64
-        ensures { result ≡ estimate2 self.now.exchange }
+        ensures estimate { result ≡ estimate2 self.now.exchange }
+        ensures size { unsigned_abs result < 2 ^ 49 }
     {
         self.exchange.estimate2()
     }

@@ -1,4 +1,4 @@
-ghost use Rattle.std.specs.Prelude.{◌≡◌};
+ghost use Rattle.std.specs.Prelude.{◌≡◌, ◌<◌, ◌^◌, unsigned_abs};
 ghost use Rattle.pingpong.specs.Exchange.{estimate2, exchange_of, round_trip};
 
 use ld_base::{Message, Ticks};
@@ -34,7 +34,8 @@ impl Exchange {
     /// Twice the offset of the peer's clock for the own one, in ticks, if both messages took equally long:
     /// `(b2 - a1) + (b3 - a4)`.
     pub fn estimate2(&self) -> i64
-        ensures { result ≡ estimate2 self.now }
+        ensures estimate { result ≡ estimate2 self.now }
+        ensures size { unsigned_abs result < 2 ^ 49 }
     {
         (self.b2 as i64 - self.a1 as i64) + (self.b3 as i64 - self.a4 as i64)
     }

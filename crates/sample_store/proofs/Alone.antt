@@ -1,10 +1,11 @@
 -- The aligned number is alone: two of them would be half a spacing apart at least.
 use Rattle.std.specs.Prelude.{ℤ, pos, negsuc, ◌-ℤ◌, ◌+ℤ◌, ◌*ℤ◌}
+use Rattle.std.specs.Int.{int_div_euclid}
 use Rattle.std.proofs.Common.{◌≡◌, ℕ, suc, ◌+◌, ◌*◌, ◌<◌, ◌≤◌, inl, inr, ap, arith, rules}
 use Rattle.std.proofs.lemmas.Bool.{cases_order}
 use Rattle.std.proofs.lemmas.Int.{ints}
 use Rattle.std.proofs.Math.Nat.{mul-le-mul_left, mul-suc}
-use Rattle.sample_store.specs.Aligned.{floor_div, Aligned, IsWithinHalf, IsAligned}
+use Rattle.sample_store.specs.Aligned.{Aligned, IsWithinHalf, IsAligned}
 
 abbrev AreBoth : ℕ → ℕ → ℤ → ℤ → ℤ → Type 0
 AreBoth spacing number estimate2 n k = IsAligned spacing number estimate2 n × IsAligned spacing number estimate2 k
@@ -50,7 +51,7 @@ IsAligned-alone spacing number e (negsuc a) (negsuc b) some first second = elim 
 IsAligned-alone spacing number e (negsuc a) (pos b) some first second = absurd (both_sides spacing number e a b some (first, second))
 IsAligned-alone spacing number e (pos a) (negsuc b) some first second = absurd (both_sides spacing number e b a some (second, first))
 
-floor-within : (z : ℤ) (half : ℕ) → 0 < half → IsWithinHalf half (((pos (2 * half) *ℤ floor_div z (2 * half)) -ℤ z) +ℤ pos half)
+floor-within : (z : ℤ) (half : ℕ) → 0 < half → IsWithinHalf half (((pos (2 * half) *ℤ int_div_euclid z (pos (2 * half))) -ℤ z) +ℤ pos half)
 floor-within (pos n) half some = search rules
 floor-within (negsuc n) half some = search rules
 

@@ -1,15 +1,12 @@
 -- Aligned: under which number of the own samples a peer's sample belongs. (Alignment rule of this project's own.)
-use Rattle.std.specs.Prelude.{ℕ, ◌+◌, ◌*◌, ◌/◌, ◌≤◌, ℤ, pos, negsuc, neg_ℤ, ◌+ℤ◌, ◌-ℤ◌, ◌*ℤ◌, ◌<ℤ◌, ◌≤ℤ◌}
+use Rattle.std.specs.Prelude.{ℕ, ◌+◌, ◌*◌, ◌≤◌, ℤ, pos, neg_ℤ, ◌+ℤ◌, ◌-ℤ◌, ◌*ℤ◌, ◌<ℤ◌, ◌≤ℤ◌}
+use Rattle.std.specs.Int.{int_div_euclid}
 use Rattle.pingpong.specs.Reading.{Reading, stamp}
 
--- a division that rounds down, for numbers of either sign
-abbrev pub floor_div : ℤ → ℕ → ℤ
-floor_div (pos n) by = pos (n / by)
-floor_div (negsuc n) by = negsuc (n / by)
-
--- the own number that lies nearest to a peer's number by twice the offset of the peer's clock, and of two the later
+-- the own number that lies nearest to a peer's number by twice the offset of the peer's clock, and of two the later: a division
+-- that rounds down
 abbrev pub Aligned : ℕ → ℕ → ℤ → ℤ
-Aligned spacing number estimate2 = floor_div (pos (spacing + 2 * number * spacing) -ℤ estimate2) (2 * spacing)
+Aligned spacing number estimate2 = int_div_euclid (pos (spacing + 2 * number * spacing) -ℤ estimate2) (pos (2 * spacing))
 
 -- the own number n and the peer's number m are aligned: -T < 2*n*T - 2*m*T + e <= T
 pub record IsWithinHalf (spacing : ℕ) (twice : ℤ) : Type 0 where

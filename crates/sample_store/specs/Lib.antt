@@ -1,2 +1,7 @@
 pub mod Aligned
+pub mod Along
+pub mod Calls
 pub mod Instants
+pub mod JudgedSet
+pub mod Offers
+pub mod Stock

@@ -2,3 +2,6 @@
 #![tactic(auto)]
 
 pub mod laws;
+mod ring;
+
+pub use ring::Numbered;
