@@ -1,0 +1,122 @@
+"""Runs linediff as a user would, and looks at what it writes, what it says on standard error and how it ends.
+
+Needs cc, for the library that refuses one allocation after the other.
+"""
+import os
+import resource
+import subprocess
+import tempfile
+
+ROOT = os.path.dirname(os.path.dirname(os.path.abspath(__file__)))
+LINEDIFF = os.path.join(ROOT, "linediff")
+# The one line that the program itself says of words that are no command.
+USAGE = b"usage: linediff judge COUNT\n"
+LARGEST = 16_777_216
+EXAMPLES = os.path.join(ROOT, "examples")
+
+
+def bytes_of(*path):
+    with open(os.path.join(ROOT, *path), "rb") as file:
+        return file.read()
+
+
+def run(words, given=b"", stdin=None, stdout=None, close=None, memory=None, program=LINEDIFF, environment=None):
+    """The output, the line on standard error and the status of a run. `close` is a descriptor that is closed before."""
+
+    def prepare():
+        if close is not None:
+            os.close(close)
+        if memory is not None:
+            resource.setrlimit(resource.RLIMIT_AS, (memory, memory))
+
+    with tempfile.TemporaryFile() as source, tempfile.TemporaryFile() as sink:
+        source.write(given)
+        source.seek(0)
+        streams = {"stdin": stdin or source, "stdout": stdout or sink, "stderr": subprocess.PIPE}
+        done = subprocess.run([program] + words, preexec_fn=prepare, env=environment, **streams)
+        sink.seek(0)
+        return sink.read(), done.stderr, done.returncode
+
+
+def words_that_are_no_command(program, good):
+    """Cases for the launcher, which hands all words but its own to the program."""
+    yield "no words, to the program itself", run([], good, program=program), (b"", USAGE, 2)
+    faulty = [["judge"], ["judge", "04"], ["judge", ""], ["judge", "0"], ["judge", "33"], ["judge", "+2"], ["judge", " 2"]]
+    faulty += [["judge", "2", "2"], ["judge", "2", ""], ["", "judge", "2"], ["judge", "", "2"], ["JUDGE", "2"], ["Judge", "2"]]
+    faulty += [["judge", "--help"], ["help"], [""], ["frame", "5"], ["bench"], ["gen", "1", "1000"], [b"judge", b"\xff"]]
+    for words in faulty:
+        yield "the words %r" % words, run(words, good), (b"", USAGE, 2)
+
+
+def rows():
+    """Cases for rows at the ends of what is allowed. Sets without current wait for a full cycle and then restrain."""
+    yield "the largest and least values", run(["judge", "32"], b"4294967295,-32768,32767,0,32767,-32768,0\n"), (b"4294967295,WWW\n", b"", 0)
+    yield "numbers of 18 digits", run(["judge", "32"], b"%018d,%018d,-%018d,0,0,0,0\n" % (7, 5, 5)), (b"7,WWW\n", b"", 0)
+    numbers = range(999_990, 1_000_020)
+    wanted = b"".join(b"%d,%s\n" % (number, b"WWW" if at < 19 else b"RRR") for at, number in enumerate(numbers))
+    yield "numbers of six and seven digits", run(["judge", "1"], b"".join(b"%d,0,0,0,0,0,0\n" % number for number in numbers)), (wanted, b"", 0)
+    bad = {b"1,0,0,0,0,0" + b",0" * 200: 2, b"1" * 19 + b",0,0,0,0,0,0": 3, b"4294967296,0,0,0,0,0,0": 4, b"1,0,0,-32769,0,0,0": 4, b"0,0,0,0,0,0,0\n0,0,0,0,0,0,0": 8}
+    for row, rule in bad.items():
+        yield "a row that breaks rule %d" % rule, run(["judge", "2"], row + b"\n"), (b"bad,%d,%d\n" % (row.count(b"\n") + 1, rule), b"bad input\n", 3)
+
+
+def ends(good, verdicts):
+    """Cases for inputs and outputs that are bad, closed, full or large."""
+    yield "verdicts", run(["judge", "2"], good), (verdicts, b"", 0)
+    yield "an empty input", run(["judge", "4"]), (b"", b"", 0)
+    yield "a bad row", run(["judge", "2"], b"1,0,0,0,0,0,0\n2\n"), (b"bad,2,2\n", b"bad input\n", 3)
+    yield "bytes that are no text", run(["judge", "2"], b"\xff,0,0,0,0,0,0\n"), (b"bad,1,3\n", b"bad input\n", 3)
+    folder = os.open("/", os.O_RDONLY)
+    yield "a folder as input", run(["judge", "2"], stdin=folder), (b"", b"read fault\n", 4)
+    os.close(folder)
+    with open("/dev/full", "wb") as full:
+        yield "a full output", run(["judge", "2"], good, stdout=full), (b"", b"write fault\n", 5)
+        yield "a bad row and a full output", run(["judge", "2"], b"1\n", stdout=full), (b"", b"bad input\n", 3)
+        yield "no text for a full output", run(["judge", "2"], stdout=full), (b"", b"", 0)
+    yield "a closed input", run(["judge", "2"], close=0), (b"", b"read fault\n", 4)
+    yield "a closed output", run(["judge", "2"], good, close=1), (b"", b"write fault\n", 5)
+    yield "a closed standard error", run(["judge"], good, close=2), (b"", b"", 2)
+    yield "the largest input", run(["judge", "2"], b"\n" * LARGEST), (b"", b"", 0)
+    yield "a larger input", run(["judge", "2"], b"\n" * (LARGEST + 1)), (b"", b"input too large\n", 7)
+    yield "little memory", run(["judge", "2"], b"\n" * LARGEST, memory=12_000_000), (b"", b"no memory\n", 6)
+
+
+def refused_allocations(program, good, verdicts):
+    """A case for each allocation of a run: refused, it leaves nothing written. After the last one the answer is whole."""
+    with tempfile.TemporaryDirectory() as folder:
+        library = os.path.join(folder, "refuse.so")
+        source = os.path.join(ROOT, "tests", "refuse.c")
+        subprocess.run(["cc", "-shared", "-fPIC", "-o", library, source, "-ldl"], check=True)
+        for count in range(1, 1000):
+            environment = dict(os.environ, LD_PRELOAD=library, REFUSE=str(count))
+            told = run(["judge", "2"], good, program=program, environment=environment)
+            if told == (verdicts, b"", 0):
+                yield "%d allocations, none refused" % (count - 1), count > 1, True
+                return
+            yield "allocation %d refused" % count, told, (b"", b"no memory\n", 6)
+
+
+def examples():
+    """Cases for what examples/README.md says of each input, counted in lines whose letters have been told there."""
+
+    def letters(name, count, phase):
+        output, said, status = run(["judge", str(count)], bytes_of("examples", name))
+        rows = [line.split(",") for line in output.decode().splitlines()]
+        return {int(number): told[phase] for number, told in rows}, said, status
+
+    told, said, status = letters("load.csv", 4, 0)
+    yield "load restrains", ("".join(told.values()), said, status), ("W" * 19 + "R" * (len(told) - 19), b"", 0)
+    told, said, status = letters("gap.csv", 4, 1)
+    tripped = [at for at in told if told[at] == "T" and told.get(at - 1) != "T"]
+    waiting = [at for at in told if told[at] == "W" and at > 23]
+    yield "a gap", (tripped, waiting[0], 25 in told, said, status), ([23, 48], 26, False, b"", 0)
+
+
+def cases():
+    program = subprocess.run([LINEDIFF, "--program"], stdout=subprocess.PIPE, check=True, text=True).stdout.strip()
+    good, verdicts = bytes_of("crates", "linediff", "stdin"), bytes_of("crates", "linediff", "stdout")
+    yield from words_that_are_no_command(program, good)
+    yield from rows()
+    yield from ends(good, verdicts)
+    yield from examples()
+    yield from refused_allocations(program, good, verdicts)
