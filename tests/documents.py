@@ -1,0 +1,60 @@
+"""Holds the documents to what stands: the crates, the files of definitions, the commands and their statuses."""
+import os
+import re
+import subprocess
+
+import answers
+
+ROOT = os.path.dirname(os.path.dirname(os.path.abspath(__file__)))
+USAGE = answers.USAGE.decode().strip()
+
+
+def text_of(name):
+    with open(os.path.join(ROOT, name), encoding="utf-8") as file:
+        return file.read()
+
+
+def crates():
+    """Each crate of crates.txt, and what it stands on."""
+    lines = [line.partition("#")[0].partition(":") for line in text_of("crates.txt").splitlines()]
+    return {name.split()[0]: sorted(below.split()) for name, _, below in lines if name.strip()}
+
+
+def rows(name, heading):
+    """The cells of each row of the first table under a heading of a document."""
+    table = re.search(r"(?m)(^\|.*\n)+", text_of(name).split("\n## %s\n" % heading)[1])[0]
+    return [[cell.strip() for cell in row.strip("|").split(" | ")] for row in table.splitlines()[2:]]
+
+
+def names_in(*cells):
+    return sorted(re.findall(r"`(\w+)`", " ".join(cells)))
+
+
+def lost_files(name, folder):
+    """The files of definitions that a document names and that aren't there. A name alone stands in the folder of the one before."""
+    lost, at = [], None
+    for path in re.findall(r"`([\w/]+\.antt)`", text_of(name)):
+        at = os.path.join(ROOT, folder, os.path.dirname(path)) if "/" in path else at
+        if not at or not os.path.isfile(os.path.join(at, os.path.basename(path))):
+            lost.append(path)
+    return lost
+
+
+def cases():
+    found = {names_in(row[0])[0]: names_in(*row[2:]) for row in rows("docs/ARCHITECTURE.md", "Crates")}
+    yield "ARCHITECTURE.md has what each crate stands on", found, crates()
+    proved = sorted(name for row in rows("README.md", "What is proved") for name in names_in(row[0]))
+    yield "the README says what is proved of each crate", proved, sorted(crates())
+    yield "RULES.md names the files that are there", lost_files("docs/RULES.md", ""), []
+    yield "ARCHITECTURE.md names the files that are there", lost_files("docs/ARCHITECTURE.md", "crates"), []
+    commands = [part.split() for part in USAGE.removeprefix("usage: linediff ").split(" | ")]
+    told = subprocess.run([os.path.join(ROOT, "linediff"), "--help"], stdout=subprocess.PIPE, check=True, text=True).stdout
+    helped = [words.split() for words in re.findall(r"(?m)^  \./linediff (\w.*)$", told)]
+    yield "--help has the commands of the usage line", helped, commands
+    worded = [row[0].partition("`")[2].partition("`")[0].split() for row in rows("docs/FORMATS.md", "Command words")]
+    yield "FORMATS.md has the commands of the usage line", worded, commands
+    statuses = [row[0] for row in rows("docs/FORMATS.md", "Exit status")]
+    yield "FORMATS.md has each status", statuses, ["0", "2", "3", "4", "5", "6", "7"]
+    yield "FORMATS.md has the usage line", "`%s`" % USAGE.replace("|", "\\|") in rows("docs/FORMATS.md", "Exit status")[1], True
+    examples = sorted(name for name in os.listdir(os.path.join(ROOT, "examples")) if name != "README.md")
+    yield "examples/README.md has each example", [name for name in examples if "`%s`" % name not in text_of("examples/README.md")], []
