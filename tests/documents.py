@@ -42,7 +42,9 @@ def lost_files(name, folder):
 
 def cases():
     found = {names_in(row[0])[0]: names_in(*row[2:]) for row in rows("docs/ARCHITECTURE.md", "Crates")}
-    yield "ARCHITECTURE.md has what each crate stands on", found, crates()
+    yield "ARCHITECTURE.md has the crates", list(found), list(crates())
+    for name, below in crates().items():
+        yield "ARCHITECTURE.md has what %s stands on" % name, found.get(name), below
     proved = sorted(name for row in rows("README.md", "What is proved") for name in names_in(row[0]))
     yield "the README says what is proved of each crate", proved, sorted(crates())
     yield "RULES.md names the files that are there", lost_files("docs/RULES.md", ""), []
