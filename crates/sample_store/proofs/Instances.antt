@@ -1,12 +1,12 @@
 -- Two samples that an exchange aligns: each clock's readings are bound together, and the two clocks by the alignment.
-use Rattle.std.specs.Prelude.{pos, ◌-ℤ◌, ◌+ℤ◌, ◌*ℤ◌}
+use Rattle.std.specs.Prelude.{pos, ◌-ℤ◌, ◌+ℤ◌}
 use Rattle.std.specs.Int.{abs_diff}
-use Rattle.std.proofs.Common.{◌≡◌, ℕ, ◌+◌, ◌-◌, ◌*◌, ◌/◌, ◌≤◌, ◌<◌, min, inl, inr, arith}
+use Rattle.std.proofs.Common.{ℕ, ◌+◌, ◌-◌, ◌*◌, ◌/◌, ◌≤◌, ◌<◌, inl, inr, arith}
 use Rattle.std.proofs.lemmas.Int.{ints}
 use Rattle.std.proofs.Math.Nat.{mul-le-mul_left}
-use Rattle.pingpong.specs.Bounded.{Passage, IsInOrder}
+use Rattle.pingpong.specs.Bounded.{Passage}
 use Rattle.pingpong.specs.Reading.{Reading, WithinDrift, SameClock}
-use Rattle.sample_store.specs.Aligned.{IsAligned, IsSample}
+use Rattle.sample_store.specs.Aligned.{IsAligned}
 use Rattle.sample_store.specs.Instants.{AreAligned, AreNear, age_of_all}
 
 -- two readings of one clock rise alike but for a drift

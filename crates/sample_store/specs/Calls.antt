@@ -1,5 +1,5 @@
 -- The calls of a store, and the sets that it gives.
-use Rattle.std.specs.Prelude.{ℕ, List, [], ◌∷◌, ◌++◌, Option, Some, None}
+use Rattle.std.specs.Prelude.{ℕ, List, [], ◌∷◌, Option, Some, None}
 use Rattle.ld_base.specs.declared.fields.Fields.{Fields}
 use Rattle.ld_base.specs.declared.phases.SampleSet.{SampleSet}
 use Rattle.sample_store.specs.Along.{along}

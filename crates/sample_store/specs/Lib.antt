@@ -1,5 +1,6 @@
 pub mod Aligned
 pub mod Along
+pub mod Answers
 pub mod Calls
 pub mod Instants
 pub mod JudgedSet

@@ -1,5 +1,5 @@
 -- What a store is offered, and the values that it takes from that: own samples and placed values of peers, by number.
-use Rattle.std.specs.Prelude.{ℕ, ◌+◌, ◌*◌, ◌/◌, ◌%◌, max, ℤ, pos, negsuc, nat_le, nat_lt, Bool, ◌&&◌, ◌==◌, if◌then◌else◌, List, [], ◌∷◌, find, Option, Some, None, option_map, is_none}
+use Rattle.std.specs.Prelude.{ℕ, ◌+◌, ◌*◌, ◌/◌, ◌%◌, max, ℤ, pos, negsuc, nat_le, nat_lt, ◌&&◌, ◌==◌, if◌then◌else◌, List, [], ◌∷◌, find, Option, Some, None, option_map, is_none}
 use Rattle.ld_base.specs.declared.phases.Phases.{Phases}
 use Rattle.offset_track.specs.Track.{Chosen}
 use Rattle.pingpong.specs.Exchange.{estimate2}

@@ -1,10 +1,14 @@
 //! The laws of alignment, each the contract of a function that does nothing.
 
-ghost use Rattle.std.specs.Prelude.{◌≡◌, ◌<◌, ℕ, ℤ};
+ghost use Rattle.std.specs.Prelude.{◌≡◌, ◌<◌, ℕ, ℤ, List};
+ghost use Rattle.ld_base.specs.declared.fields.Fields.{Fields};
 ghost use Rattle.pingpong.specs.Bounded.{Passage};
 ghost use Rattle.pingpong.specs.Reading.{Reading};
 ghost use Rattle.sample_store.specs.Aligned.{Aligned, IsAligned};
+ghost use Rattle.sample_store.specs.Calls.{Given, as_a_terminal};
 ghost use Rattle.sample_store.specs.Instants.{AreAligned, AreNear};
+ghost use Rattle.sample_store.specs.JudgedSet.{JudgedSet};
+ghost use Rattle.sample_store.specs.Offers.{Offer};
 
 /// The aligned number is the one whole number n with `-T < 2*n*T - 2*m*T + e <= T`.
 pub fn the_aligned_number_is_the_one()
@@ -16,4 +20,10 @@ pub fn the_aligned_number_is_the_one()
 pub fn aligned_samples_are_near()
     ensures { (spacing drift : ℕ) (p : Passage) (own peer : Reading) (n m now : ℕ) → AreAligned spacing drift p own peer n m now
         → AreNear spacing drift p own peer now }
+{}
+
+/// Where a store is asked for the set of each value that was put, right after it was, and at no other time, it gives exactly the
+/// judged sets.
+pub fn a_terminal_is_given_the_judged_sets()
+    ensures { (f : Fields) (me : ℕ) (offers : List Offer) → Given f me (as_a_terminal f offers) ≡ JudgedSet f me offers }
 {}

@@ -3,5 +3,7 @@
 
 pub mod laws;
 mod ring;
+mod store;
 
 pub use ring::Numbered;
+pub use store::{OwnTaken, Store};
