@@ -7,3 +7,6 @@ mod store;
 
 pub use ring::Numbered;
 pub use store::{OwnTaken, Store};
+
+#[cfg(test)]
+mod tests;
