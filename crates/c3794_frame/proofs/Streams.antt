@@ -2,33 +2,20 @@
 use Rattle.std.proofs.Common.{◌≡◌, ℕ, suc, zero, ◌+◌, ◌-◌, ◌*◌, ◌/◌, ◌%◌, ◌<◌, ◌≤◌, Bool, true, false, List, ◌++◌, length, get_or, take, drop, refl, ap, sym, ◌∙◌, inl, inr, arith, length-append, lit<}
 use Rattle.std.specs.Int.{bit_at}
 use Rattle.std.proofs.lemmas.Bool.{cases_lt}
-use Rattle.std.proofs.lemmas.List.{get_or-append_right, get_or-drop, get_or-take, get_or_append_left, get_or_past, length-drop, length-take-le}
+use Rattle.std.proofs.lemmas.List.{get_or-append_right, get_or-drop, get_or-take, get_or_append_left, length-drop, length-take-le}
 use Rattle.std.proofs.lemmas.Nat.Bits.{bit_at_cat_low, bit_at_cat_high, bit_at_ones, bit_at_ones_above}
 use Rattle.ld_base.specs.Words.{AreWords, HeaderWords}
 use Rattle.c3794_frame.specs.FrameOf.{FrameOf, Layout, header_of, word}
 use Rattle.c3794_frame.specs.Numbers.{AreBits, number_bits}
 use Rattle.c3794_frame.specs.Stream.{IsStream, WordStands}
 use Rattle.c3794_frame.specs.Stream.IsStream.{ends, goes_on}
-use Rattle.c3794_frame.proofs.Numbers.{get_or-number_bits, number_bits-number}
-
--- the first bits of bits
-take_are : (n : ℕ) (bits : List ℕ) → n ≤ length bits → AreBits bits → AreBits (take n bits)
-take_are n bits few are = record {
-  each = λ i. elim (cases_lt i n) [
-    | inl within ↦ rw (get_or-take n bits i 0 within) (are.each i)
-    | inr past ↦ let none : get_or (take n bits) i 0 ≡ 0 = get_or_past (take n bits) i 0 (rw (length-take-le n bits few) past) in omega arith
-  ];
-}
-
--- the bits behind a place
-drop_are : (n : ℕ) (bits : List ℕ) → AreBits bits → AreBits (drop n bits)
-drop_are n bits are = record { each = λ i. rw (get_or-drop n bits i 0) (are.each (n + i)) }
+use Rattle.c3794_frame.proofs.Numbers.{are_append, are_drop, are_take, get_or-number_bits, number_bits-number}
 
 -- each of the first sixteen bits is that of their number
 header_at : (bits : List ℕ) (i : ℕ) → AreBits bits → 16 ≤ length bits → i < 16
     → get_or bits i 0 ≡ bit_at (header_of bits) (16 - 1 - i)
 header_at bits i are long below =
-    let all = number_bits-number (take 16 bits) (take_are 16 bits long are) in
+    let all = number_bits-number (take 16 bits) (are_take 16 bits are) in
     let all' : number_bits 16 (header_of bits) ≡ take 16 bits = rw (length-take-le 16 bits long) at all in
     sym (get_or-take 16 bits i 0 below) ∙ ap (λ xs. get_or xs i 0) (sym all') ∙ get_or-number_bits 16 (header_of bits) i below
 
@@ -123,15 +110,6 @@ line_back bits rest i j size same =
     let at : j - 256 ≡ i = omega arith in
     get_or-append_right bits rest 256 j 0 size (omega arith) ∙ ap (λ (x : ℕ). get_or rest x 0) at
 
--- joined bits are bits
-joined_are : (bits rest : List ℕ) → length bits ≡ 256 → AreBits bits → AreBits rest → AreBits (bits ++ rest)
-joined_are bits rest size are more = record {
-  each = λ i. elim (cases_lt i 256) [
-    | inl near ↦ rw (line_front bits rest i i size near refl) (are.each i)
-    | inr far ↦ rw (line_back bits rest (i - 256) i size (omega arith)) (more.each (i - 256))
-  ];
-}
-
 -- these bits are a count of frames
 record InFrames (bits : List ℕ) : Type 0 where
   count : ℕ
@@ -158,7 +136,7 @@ stream_frames are (goes_on odd bits rest f same frame more) =
     record {
       count = suc r.count;
       size = omega (arith, length-append bits rest, r.size);
-      are_bits = joined_are bits rest size frame.are_bits r.are_bits;
+      are_bits = are_append bits rest frame.are_bits r.are_bits;
       frames = λ q h. joined_frames bits rest r.count size (frame_facts _ bits f are frame) (λ k l. r.frames k l) q h;
     }
 
@@ -176,7 +154,7 @@ word_at_frame words odd which bits p are stream stands =
     let t : ℕ = (p + 8) % 256 in
     let at : (k i : ℕ) → k ≡ p + i → i < 16 → get_or bits k 0 ≡ bit_at (word words which) (15 - i) =
     λ k i e h. ap (λ (x : ℕ). get_or bits x 0) e ∙ sym (get_or-drop p bits i 0)
-    ∙ header_at (drop p bits) i (drop_are p bits r.are_bits) behind h
+    ∙ header_at (drop p bits) i (are_drop p bits r.are_bits) behind h
     ∙ ap (λ (x : ℕ). bit_at x (16 - 1 - i)) stands.there ∙ ap (bit_at (word words which)) (omega arith) in
     let low = λ (k : ℕ) (l : t ≤ k) (h : k < t + 4).
     at (q * 256 + k) (q * 256 + k - p) (omega arith) (omega arith) ∙ w.zeros (15 - (q * 256 + k - p)) (omega arith) (omega arith) in
