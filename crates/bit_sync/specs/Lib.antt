@@ -1,0 +1,5 @@
+pub mod Frames
+pub mod StandsFor
+pub mod Register
+pub mod Step
+pub mod View

@@ -1,0 +1,15 @@
+-- What a receiver is seen as.
+use Rattle.std.specs.Prelude.{ℕ, ◌≤◌}
+use Rattle.bit_sync.specs.StandsFor.{Kept}
+use Rattle.bit_sync.specs.Step.{FitsLock, kept, rules}
+use Rattle.bit_sync.specs.declared.receiver.Receiver.TheInside.{Inside}
+
+-- what it keeps
+abbrev pub kept_of : Inside → Kept
+kept_of r = kept (rules r.words r.misses r.channels) r.lock r.register
+
+-- its channels and its loss count are in range, and so is its lock
+pub record IsReceiver (r : Inside) : Type 0 where
+  pub channels : (1 ≤ r.channels) × (r.channels ≤ 12)
+  pub misses : (1 ≤ r.misses) × (r.misses ≤ 10)
+  pub lock : FitsLock r.misses r.lock
