@@ -11,9 +11,9 @@ use Rattle.std.proofs.lemmas.Nat.Bits.{bit_at-lt}
 use Rattle.ld_base.specs.Bits.{byte_bit, line_bit, line_bits}
 use Rattle.c3794_frame.specs.Numbers.{AreBits, bits_of, number}
 use Rattle.c3794_frame.proofs.Lines.{number_of}
-use Rattle.bit_sync.specs.Frames.{Rules, frames, gots, position, steps, unread}
+use Rattle.bit_sync.specs.Frames.{Rules, frames, listed, gots, position, steps, unread}
 use Rattle.bit_sync.specs.StandsFor.{Kept, StandsFor}
-use Rattle.bit_sync.specs.Step.{Fills, Takes, kept, listed}
+use Rattle.bit_sync.specs.Step.{Fills, Takes, kept}
 use Rattle.bit_sync.specs.declared.told.Got.{Got}
 
 -- before the first bits
@@ -146,7 +146,7 @@ bits_small bytes at count from few is =
     ap_lt e h = omega arith
 
 -- nothing was read of a line without bits
-nothing_read : (r : Rules) → frames r [] ≡ unread
+pub nothing_read : (r : Rules) → frames r [] ≡ unread
 unfolding frames steps
 nothing_read r = refl
 

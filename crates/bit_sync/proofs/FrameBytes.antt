@@ -1,12 +1,12 @@
 -- The bytes of 256 bits.
-use Rattle.std.proofs.Common.{◌≡◌, ℕ, zero, suc, ◌+◌, ◌-◌, ◌*◌, ◌/◌, ◌%◌, ◌^◌, ◌<◌, ◌≤◌, List, ◌++◌, length, get_or, refl, arith, ap, sym, ◌∙◌, inl, inr, length-append}
+use Rattle.std.proofs.Common.{◌≡◌, ℕ, zero, suc, ◌+◌, ◌-◌, ◌*◌, ◌/◌, ◌%◌, ◌^◌, ◌<◌, List, ◌++◌, length, get_or, refl, arith, ap, sym, ◌∙◌, inl, inr, length-append}
 use Rattle.std.specs.Int.{bit_at, byte_at, bytes_high_first, to_be_bytes, w128}
 use Rattle.std.proofs.Math.Nat.{pow-suc}
 use Rattle.std.proofs.lemmas.Bool.{cases_lt}
 use Rattle.std.proofs.lemmas.List.{ext_get_or, get_or-append_right, get_or_append_left}
 use Rattle.std.proofs.lemmas.Nat.{pow-add, shr-shr}
 use Rattle.std.proofs.lemmas.Nat.Bits.{bit_at_cat_low}
-use Rattle.ld_base.specs.Bits.{byte_bit, line_bit}
+use Rattle.ld_base.specs.Bits.{byte_bit}
 use Rattle.c3794_frame.specs.Numbers.{bits_of, number, number_bits}
 use Rattle.c3794_frame.proofs.Numbers.{bits_of_at, get_or-number_bits, length-bits_of, length-number_bits, number-append, number-number_bits}
 
@@ -91,7 +91,8 @@ two_words high low xs ys bytes high_fits low_fits first second both =
     let bits : bits_of bytes ≡ bits_of (to_be_bytes w128 high) ++ bits_of (to_be_bytes w128 low) =
     ap bits_of both ∙ bits_of-append xs ys ∙ ap (λ t. bits_of t ++ bits_of ys) first ∙ ap (λ t. bits_of (to_be_bytes w128 high) ++ bits_of t) second in
     let long : length bytes ≡ 32 = ap length both ∙ length-append xs ys ∙ ap (λ t. length t + length ys) first ∙ ap (λ t. 16 + length t) second in (
-      ap number bits ∙ number-append (bits_of (to_be_bytes w128 high)) (bits_of (to_be_bytes w128 low)) ∙ ap (λ k. number (bits_of (to_be_bytes w128 high)) * 2 ^ k + number (bits_of (to_be_bytes w128 low))) size
+      ap number bits ∙ number-append (bits_of (to_be_bytes w128 high)) (bits_of (to_be_bytes w128 low))
+          ∙ ap (λ k. number (bits_of (to_be_bytes w128 high)) * 2 ^ k + number (bits_of (to_be_bytes w128 low))) size
           ∙ ap (λ n. n * 2 ^ 128 + number (bits_of (to_be_bytes w128 low))) (word_bytes high high_fits)
           ∙ ap (λ n. high * 2 ^ 128 + n) (word_bytes low low_fits),
       long,

@@ -3,14 +3,13 @@ use Rattle.std.proofs.Common.{◌≡◌, ℕ, ◌+◌, ◌-◌, ◌*◌, ◌%◌
 use Rattle.std.specs.Prelude.{if◌then◌else◌, nat_le}
 use Rattle.std.proofs.lemmas.List.{append-nil, drop_all, length-drop, take_all}
 use Rattle.std.proofs.lemmas.Nat.{mod-mul-add}
-use Rattle.c3794_frame.specs.FrameOf.{header_of, word}
 use Rattle.c3794_frame.specs.Numbers.{AreBits, number}
 use Rattle.c3794_frame.proofs.Numbers.{are_append, are_drop, number-lt, same_number}
-use Rattle.bit_sync.specs.Frames.{Event, Place, Reading, Rules, ending, frame_judged, frames, got, gots, missed_after, onward, place_after, position}
-use Rattle.bit_sync.specs.Frames.Event.{locks, ends, loses}
+use Rattle.bit_sync.specs.Frames.{Place, Reading, Rules, ending, frame_judged, frames, got, gots, missed_after, onward, place_after, position}
+use Rattle.bit_sync.specs.Frames.Event.{ends, loses}
 use Rattle.bit_sync.specs.Frames.Place.{hunts, locked}
-use Rattle.bit_sync.specs.StandsFor.{Keeps, Kept, StandsFor}
-use Rattle.bit_sync.specs.Step.{Takes, kept, listed, lock_after}
+use Rattle.bit_sync.specs.StandsFor.{Keeps, StandsFor}
+use Rattle.bit_sync.specs.Step.{Takes, kept, lock_after}
 use Rattle.bit_sync.specs.declared.lock.Lock.{Lock}
 use Rattle.bit_sync.specs.declared.told.Got.{Got}
 use Rattle.bit_sync.proofs.Hunts.{gots-append, mod-mod, number_more, same_pushed}

@@ -1,22 +1,19 @@
 -- Some bits more while a receiver hunts.
-use Rattle.std.proofs.Common.{◌≡◌, ◌≢◌, ℕ, zero, suc, ◌+◌, ◌-◌, ◌*◌, ◌/◌, ◌%◌, ◌^◌, ◌<◌, ◌≤◌, Bool, true, false, ◌||◌, ◌&&◌, eqb, List, [], ◌∷◌, ◌++◌, length, take, drop, Option, Some, None, refl, arith, ap, sym, ◌∙◌, inl, inr, lit<, lit≤, length-append}
-use Rattle.std.specs.Prelude.{if◌then◌else◌}
+use Rattle.std.proofs.Common.{◌≡◌, ◌≢◌, ℕ, ◌+◌, ◌-◌, ◌*◌, ◌/◌, ◌%◌, ◌^◌, ◌<◌, ◌≤◌, Bool, true, false, eqb, List, [], ◌∷◌, ◌++◌, length, drop, Some, None, refl, arith, ap, sym, ◌∙◌, inl, inr, lit<, lit≤, length-append}
 use Rattle.std.proofs.lemmas.Bool.{cases_lt}
-use Rattle.std.proofs.lemmas.Bool.Decides.{nat_tests}
 use Rattle.std.proofs.lemmas.List.{append-nil, drop-append-le, drop-drop, length-drop}
-use Rattle.std.proofs.lemmas.Nat.{field_of, mod_below, pow-add, shr-shr, shr_below, shr_split}
+use Rattle.std.proofs.lemmas.Nat.{field_of, pow-add, shr-shr, shr_below, shr_split}
 use Rattle.std.proofs.Math.Nat.{add-mul-mod_self_right, pow-le-pow_right}
 use Rattle.ld_base.specs.Words.{AreWords, HeaderWords}
 use Rattle.c3794_frame.specs.FrameOf.{header_of, word}
 use Rattle.c3794_frame.specs.Numbers.{AreBits, number}
 use Rattle.c3794_frame.proofs.Numbers.{are_append, are_drop, number-append, number-drop, number-lt, number-stretch}
 use Rattle.c3794_frame.proofs.Pairs.{unlike}
-use Rattle.bit_sync.specs.Frames.{Event, Place, Reading, Rules, are_both, frames, gots, lock_from, lock_made, locks_at, onward, position}
+use Rattle.bit_sync.specs.Frames.{Event, Place, Reading, Rules, are_both, frames, gots, lock_made, locks_at, onward, position}
 use Rattle.bit_sync.specs.Frames.Event.{locks, ends, loses}
 use Rattle.bit_sync.specs.Frames.Place.{hunts, locked}
-use Rattle.bit_sync.specs.StandsFor.{Keeps, Kept, StandsFor}
-use Rattle.bit_sync.specs.Step.{IsEarliest, Takes, kept, listed, window}
-use Rattle.bit_sync.specs.declared.lock.Lock.{Lock}
+use Rattle.bit_sync.specs.StandsFor.{Keeps, StandsFor}
+use Rattle.bit_sync.specs.Step.{IsEarliest, Takes, kept, window}
 use Rattle.bit_sync.proofs.Locks.{lock_is, locks_longer, no_lock, none_locks}
 use Rattle.bit_sync.proofs.Walks.{frames_done, frames_stay, frames_step, hunts_on, no_step, step_locks}
 

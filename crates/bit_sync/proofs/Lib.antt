@@ -1,7 +1,9 @@
 pub mod Fills
 pub mod FrameBytes
+pub mod Gains
 pub mod Holds
 pub mod Hunts
 pub mod Locks
 pub mod Registers
+pub mod Undamaged
 pub mod Walks

@@ -1,12 +1,12 @@
 -- Where a lock is found on a line.
-use Rattle.std.proofs.Common.{◌≡◌, ℕ, zero, suc, ◌+◌, ◌-◌, ◌<◌, ◌≤◌, ◌⊎◌, Bool, true, false, ◌||◌, ◌&&◌, eqb, cond, List, ◌++◌, length, take, drop, Option, Some, None, refl, arith, ap, sym, ◌∙◌, inl, inr}
+use Rattle.std.proofs.Common.{◌≡◌, ℕ, zero, suc, ◌+◌, ◌-◌, ◌<◌, ◌≤◌, ◌⊎◌, Bool, true, false, cond, List, ◌++◌, length, drop, Option, Some, None, refl, arith, ap, ◌∙◌, inl, inr}
 use Rattle.std.specs.List.{find, range_with_len}
 use Rattle.std.proofs.lemmas.Bool.{cases_eq}
 use Rattle.std.proofs.lemmas.List.{drop-append-le, length-drop, take-append-le}
 use Rattle.ld_base.specs.Words.{HeaderWords}
-use Rattle.c3794_frame.specs.FrameOf.{header_of, word}
+use Rattle.c3794_frame.specs.FrameOf.{header_of}
 use Rattle.c3794_frame.specs.Numbers.{number}
-use Rattle.bit_sync.specs.Frames.{are_both, lock_from, locks_at}
+use Rattle.bit_sync.specs.Frames.{lock_from, locks_at}
 
 -- which way one step of a search went
 search_step : (b : Bool) (x k : ℕ) (rest : Option ℕ) → cond b (Some x) rest ≡ Some k

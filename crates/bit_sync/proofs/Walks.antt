@@ -1,15 +1,15 @@
 -- How a reading goes on: with each step, to its end, and on a longer line.
-use Rattle.std.proofs.Common.{◌≡◌, ℕ, zero, suc, ◌+◌, ◌-◌, ◌*◌, ◌/◌, ◌<◌, ◌≤◌, ◌⊎◌, Bool, true, false, not, List, [], ◌∷◌, ◌++◌, length, take, drop, Option, Some, None, refl, arith, ap, sym, ◌∙◌, inl, inr, lit<, length-append}
+use Rattle.std.proofs.Common.{◌≡◌, ℕ, zero, suc, ◌+◌, ◌-◌, ◌*◌, ◌/◌, ◌<◌, ◌≤◌, ◌⊎◌, Bool, true, false, not, List, [], ◌++◌, length, take, drop, Option, Some, None, refl, arith, ap, sym, ◌∙◌, inl, inr, length-append}
 use Rattle.std.specs.Prelude.{if◌then◌else◌, option_map, nat_le}
 use Rattle.std.proofs.lemmas.Bool.{cases_lt}
 use Rattle.std.proofs.lemmas.Bool.Decides.{nat_tests}
 use Rattle.std.proofs.lemmas.List.{append_assoc, append-nil, drop-append-le, length-drop, take-append-le}
-use Rattle.bit_sync.specs.Frames.{Event, Place, Reading, Rules, frame_judged, frames, gots, lock_from, lock_made, locks_at, onward, place_after, position, steps, unread, with_step}
+use Rattle.bit_sync.specs.Frames.{Event, Place, Reading, Rules, frame_judged, frames, lock_from, lock_made, onward, place_after, position, steps, unread, with_step}
 use Rattle.bit_sync.specs.Frames.Place.{hunts, locked}
 use Rattle.bit_sync.proofs.Locks.{lock_found, lock_is, locks_longer, header_longer}
 
 -- a value that is made of another
-from_map : {A B : Type 0} (f : A → B) (o : Option A) (y : B) → option_map f o ≡ Some y → (x : A) × (o ≡ Some x) × (f x ≡ y)
+pub from_map : {A B : Type 0} (f : A → B) (o : Option A) (y : B) → option_map f o ≡ Some y → (x : A) × (o ≡ Some x) × (f x ≡ y)
 from_map f None y e = absurd (cc)
 from_map f (Some x) y e = (x, refl, cc)
 
@@ -19,7 +19,7 @@ some_or_none None = inl refl
 some_or_none (Some step) = inr (step, refl)
 
 -- a value under a test
-from_test : {A : Type 0} (b : Bool) (x y : A) → (if b then Some x else None) ≡ Some y → (b ≡ true) × (x ≡ y)
+pub from_test : {A : Type 0} (b : Bool) (x y : A) → (if b then Some x else None) ≡ Some y → (b ≡ true) × (x ≡ y)
 from_test true x y e = (refl, cc)
 from_test false x y e = absurd (cc)
 
@@ -32,7 +32,7 @@ lt_test : (a b : ℕ) → b < a → nat_le a b ≡ false
 lt_test a b h = grind (arith, nat_tests)
 
 -- what a test that passed says
-test_le : (a b : ℕ) → nat_le a b ≡ true → a ≤ b
+pub test_le : (a b : ℕ) → nat_le a b ≡ true → a ≤ b
 test_le a b h = grind (arith, nat_tests)
 
 -- a step in which a lock is made

@@ -120,3 +120,18 @@ is_locked (locked at odd missed) = true
 abbrev pub position : Place → ℕ
 position (hunts h) = h
 position (locked at odd missed) = at
+
+-- the frame of some bits, as a list
+abbrev pub listed : Option Got → List Got
+listed None = []
+listed (Some got) = got ∷ []
+
+-- what happens while up to 256 bits come, by where the reading stands before and after them and the frame that ends among
+-- them: a lock is made sixteen bits into its first frame, and that frame may end among the same bits
+abbrev pub gained : Place → Place → Option Got → List Event
+gained (hunts h) (hunts h') frame = []
+gained (hunts h) (locked at odd missed) None = locks (at + 16) ∷ []
+gained (hunts h) (locked at odd missed) (Some got) = locks (at - 240) ∷ ends at got ∷ []
+gained (locked at odd missed) place None = []
+gained (locked at odd missed) (locked at' odd' missed') (Some got) = ends (at + 256) got ∷ []
+gained (locked at odd missed) (hunts h) (Some got) = ends (at + 256) got ∷ loses (at + 256) ∷ []

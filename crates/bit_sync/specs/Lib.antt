@@ -3,3 +3,4 @@ pub mod StandsFor
 pub mod Register
 pub mod Step
 pub mod View
+pub mod Undamaged

@@ -1,5 +1,5 @@
 -- When a receiver stands for a line: all bits that it was fed.
-use Rattle.std.specs.Prelude.{◌≡◌, ℕ, ◌+◌, ◌-◌, ◌%◌, ◌^◌, ◌<◌, ◌≤◌, List, length, drop, Option, Some, None}
+use Rattle.std.specs.Prelude.{◌≡◌, ℕ, ◌+◌, ◌-◌, ◌%◌, ◌^◌, ◌≤◌, List, length, drop, Option, Some, None}
 use Rattle.c3794_frame.specs.Numbers.{AreBits, number}
 use Rattle.bit_sync.specs.Frames.{Place, Rules, frames}
 use Rattle.bit_sync.specs.Frames.Place.{hunts, locked}

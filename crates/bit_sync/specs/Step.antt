@@ -1,8 +1,8 @@
 -- What a receiver does with some bits more.
-use Rattle.std.specs.Prelude.{◌≡◌, ℕ, ◌+◌, ◌/◌, ◌%◌, ◌^◌, ◌<◌, ◌≤◌, Bool, true, false, not, nat_le, if◌then◌else◌, is_some, List, [], ◌∷◌, ◌++◌, length, Option, Some, None}
+use Rattle.std.specs.Prelude.{◌≡◌, ℕ, ◌+◌, ◌/◌, ◌%◌, ◌^◌, ◌<◌, ◌≤◌, Bool, true, false, not, nat_le, if◌then◌else◌, is_some, List, ◌++◌, length, Option, Some, None}
 use Rattle.std.specs.Option.{ForSome}
 use Rattle.ld_base.specs.Words.{HeaderWords}
-use Rattle.bit_sync.specs.Frames.{Rules, are_both, frames, gots, position}
+use Rattle.bit_sync.specs.Frames.{Rules, are_both, frames, gots, listed, position}
 use Rattle.bit_sync.specs.StandsFor.{Kept, StandsFor}
 use Rattle.bit_sync.specs.declared.lock.Lock.{Lock}
 use Rattle.bit_sync.specs.declared.told.Got.{Got}
@@ -14,11 +14,6 @@ rules words misses channels = record { words = words; misses = misses; channels 
 -- what is kept with these rules
 abbrev pub kept : Rules → Option Lock → ℕ → Kept
 kept r lock register = record { rules = r; lock = lock; register = register }
-
--- the frame of a step, as a list
-abbrev pub listed : Option Got → List Got
-listed None = []
-listed (Some got) = got ∷ []
 
 -- some bits more: the receiver stands for the longer line, and the frame that is told is the one that ends there
 pub record Takes (new : Kept) (line group : List ℕ) (got : Option Got) : Type 0 where

@@ -1,5 +1,5 @@
 -- What a receiver is seen as.
-use Rattle.std.specs.Prelude.{ℕ, ◌≤◌}
+use Rattle.std.specs.Prelude.{◌≤◌}
 use Rattle.bit_sync.specs.StandsFor.{Kept}
 use Rattle.bit_sync.specs.Step.{FitsLock, kept, rules}
 use Rattle.bit_sync.specs.declared.receiver.Receiver.TheInside.{Inside}

@@ -3,9 +3,9 @@ ghost use Rattle.std.specs.List.{range_with_len};
 ghost use Rattle.std.specs.Option.{ForSome};
 ghost use Rattle.ld_base.specs.Bits.{line_bit, line_bits};
 ghost use Rattle.c3794_frame.specs.Numbers.{AreBits, number};
-ghost use Rattle.bit_sync.specs.Frames.{frames, gots, is_locked};
+ghost use Rattle.bit_sync.specs.Frames.{frames, listed, gots, is_locked};
 ghost use Rattle.bit_sync.specs.StandsFor.{StandsFor, state_of};
-ghost use Rattle.bit_sync.specs.Step.{Fills, FitsLock, Takes, kept, listed, rules};
+ghost use Rattle.bit_sync.specs.Step.{Fills, FitsLock, Takes, kept, rules};
 
 use crate::holding::{Taken, held, whole_frame};
 use crate::hunting::hunted;

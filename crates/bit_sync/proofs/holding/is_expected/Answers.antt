@@ -1,4 +1,4 @@
-use Rattle.std.proofs.Common.{eqb, ap, sym, ◌∙◌}
+use Rattle.std.proofs.Common.{sym, ◌∙◌}
 use Rattle.c3794_frame.proofs.Lines.{header_is}
 use Rattle.bit_sync.proofs.holding.is_expected.Goals as goal
 

@@ -1,5 +1,4 @@
 use Rattle.bit_sync.proofs.Walks.{longer_first}
-use Rattle.bit_sync.proofs.Fills.{fills_more}
 use Rattle.bit_sync.proofs.laws.longer_line.Goals as goal
 
 pub returns : goal.returns

@@ -1,4 +1,3 @@
-use Rattle.std.proofs.Common.{arith}
 use Rattle.bit_sync.proofs.FrameBytes.{two_words}
 use Rattle.bit_sync.proofs.Registers.{newest_below}
 use Rattle.bit_sync.proofs.register.bytes_of.Goals as goal

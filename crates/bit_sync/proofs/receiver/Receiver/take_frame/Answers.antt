@@ -1,5 +1,4 @@
 use Rattle.std.proofs.Common.{◌≡◌, ℕ, ◌+◌, ◌*◌, ◌<◌, List, length, Option, Some, ap, arith, subst, sym, ◌∙◌}
-use Rattle.ld_base.specs.Bits.{line_bits}
 use Rattle.c3794_frame.specs.Numbers.{bits_of}
 use Rattle.c3794_frame.proofs.Numbers.{are_bits_of, length-bits_of}
 use Rattle.bit_sync.specs.StandsFor.{Kept, StandsFor}

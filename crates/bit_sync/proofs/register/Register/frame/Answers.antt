@@ -1,4 +1,4 @@
-use Rattle.std.proofs.Common.{◌+◌, ◌%◌, ◌^◌, ◌*◌, ap, sym, ◌∙◌}
+use Rattle.std.proofs.Common.{◌∙◌}
 use Rattle.bit_sync.proofs.Registers.{newest_words}
 use Rattle.bit_sync.proofs.register.Register.frame.Goals as goal
 
