@@ -1,0 +1,4 @@
+pub mod Messages
+pub mod Outlet
+pub mod Pieces
+pub mod Sent
