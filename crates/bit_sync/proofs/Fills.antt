@@ -11,9 +11,10 @@ use Rattle.std.proofs.lemmas.Nat.Bits.{bit_at-lt}
 use Rattle.ld_base.specs.Bits.{byte_bit, line_bit, line_bits}
 use Rattle.c3794_frame.specs.Numbers.{AreBits, bits_of, number}
 use Rattle.c3794_frame.proofs.Lines.{number_of}
+use Rattle.c3794_frame.proofs.Numbers.{number-append}
 use Rattle.bit_sync.specs.Frames.{Rules, frames, listed, gots, position, steps, unread}
 use Rattle.bit_sync.specs.StandsFor.{Kept, StandsFor}
-use Rattle.bit_sync.specs.Step.{Fills, Takes, kept}
+use Rattle.bit_sync.specs.Step.{Fills, Takes, kept, some_bits}
 use Rattle.bit_sync.specs.declared.told.Got.{Got}
 
 -- before the first bits
@@ -92,23 +93,30 @@ range_parts f a (suc n) m =
 
 -- more of the bits of a chunk
 pub more_bits : (bytes : List ℕ) (done some : ℕ)
-    → line_bits (done + some) bytes ≡ line_bits done bytes ++ map (line_bit bytes) (range_with_len done some)
+    → line_bits (done + some) bytes ≡ line_bits done bytes ++ some_bits bytes done some
+unfolding some_bits
 more_bits bytes done some = let e : 0 + done ≡ done = omega arith in range_parts (line_bit bytes) 0 done some ∙ ap (λ a. line_bits done bytes ++ map (line_bit bytes) (range_with_len a some)) e
 
+-- there are so many
+pub length-some_bits : (bytes : List ℕ) (at count : ℕ) → length (some_bits bytes at count) ≡ count
+unfolding some_bits
+length-some_bits bytes at count = length-map-range_with_len (line_bit bytes) at count
+
+-- each of them
+some_bits_at : (bytes : List ℕ) (at count i : ℕ) → i < count → get_or (some_bits bytes at count) i 0 ≡ line_bit bytes (at + i)
+unfolding some_bits
+some_bits_at bytes at count i within = get_or-map-range_with_len (line_bit bytes) at count i (at + i) 0 within refl
+
 -- some bits of bytes are bits
-pub some_bits : (bytes : List ℕ) (at count : ℕ) → AreBits (map (line_bit bytes) (range_with_len at count))
-some_bits bytes at count = record {
+pub are_some_bits : (bytes : List ℕ) (at count : ℕ) → AreBits (some_bits bytes at count)
+are_some_bits bytes at count = record {
   each = λ i. elim (cases_lt i count) [
-    | inl within ↦ rw (get_or-map-range_with_len (line_bit bytes) at count i (at + i) 0 within refl) (bit_at-lt _ _)
+    | inl within ↦ rw (some_bits_at bytes at count i within) (bit_at-lt _ _)
     | inr past ↦
-        let none : get_or (map (line_bit bytes) (range_with_len at count)) i 0 ≡ 0 = get_or_past _ i 0 (rw (length-map-range_with_len (line_bit bytes) at count) past) in
+        let none : get_or (some_bits bytes at count) i 0 ≡ 0 = get_or_past (some_bits bytes at count) i 0 (rw (length-some_bits bytes at count) past) in
         omega arith
   ];
 }
-
--- there are so many
-pub length-some_bits : (bytes : List ℕ) (at count : ℕ) → length (map (line_bit bytes) (range_with_len at count)) ≡ count
-length-some_bits bytes at count = length-map-range_with_len (line_bit bytes) at count
 
 -- a byte shifted to its first bits and then to their number
 shifted_byte : (b s n : ℕ) → s + n ≤ 8 → b * 2 ^ s % 256 / 2 ^ (8 - n) ≡ b / 2 ^ (8 - s - n) % 2 ^ n
@@ -121,20 +129,20 @@ shifted_byte b s n few =
 
 -- the number of some bits of one byte
 pub bits_number : (bytes : List ℕ) (at count from : ℕ) → at % 8 + count ≤ 8 → from ≡ at / 8
-    → get_or bytes from 0 * 2 ^ (at % 8) % 256 / 2 ^ (8 - count) ≡ number (map (line_bit bytes) (range_with_len at count))
+    → get_or bytes from 0 * 2 ^ (at % 8) % 256 / 2 ^ (8 - count) ≡ number (some_bits bytes at count)
 bits_number bytes at count from few is =
     let s : ℕ = at % 8 in
     let b : ℕ = get_or bytes (at / 8) 0 in
     let rest : ℕ = 8 - s - count in
-    let same : (i : ℕ) → i < count → get_or (map (line_bit bytes) (range_with_len at count)) i 0 ≡ bit_at (b / 2 ^ rest) (count - 1 - i) =
+    let same : (i : ℕ) → i < count → get_or (some_bits bytes at count) i 0 ≡ bit_at (b / 2 ^ rest) (count - 1 - i) =
     λ i below.
     let quotient : (at + i) / 8 ≡ at / 8 = omega arith in
     let place : (at + i) % 8 ≡ s + i = omega arith in
     let bit : 7 - (s + i) ≡ rest + (count - 1 - i) = omega arith in
-    get_or-map-range_with_len (line_bit bytes) at count i (at + i) 0 below refl
+    some_bits_at bytes at count i below
     ∙ ap (λ q. byte_bit (get_or bytes q 0) ((at + i) % 8)) quotient ∙ ap (byte_bit b) place ∙ ap (bit_at b) bit ∙ ap (λ x. x % 2) (sym (shr-shr b rest (count - 1 - i))) in
     ap (λ q. get_or bytes q 0 * 2 ^ s % 256 / 2 ^ (8 - count)) is ∙ shifted_byte b s count few
-    ∙ sym (number_of (map (line_bit bytes) (range_with_len at count)) count (b / 2 ^ rest) (length-some_bits bytes at count) same)
+    ∙ sym (number_of (some_bits bytes at count) count (b / 2 ^ rest) (length-some_bits bytes at count) same)
 
 -- it is below the power of their count
 pub bits_small : (bytes : List ℕ) (at count from : ℕ) → at % 8 + count ≤ 8 → from ≡ at / 8
@@ -144,6 +152,44 @@ bits_small bytes at count from few is =
   where
     ap_lt : {x y z : ℕ} → x ≡ y → y < z → x < z
     ap_lt e h = omega arith
+
+-- a whole byte by its bits
+byte_number : (bytes : List ℕ) (k : ℕ) → get_or bytes k 0 < 256 → number (some_bits bytes (8 * k) 8) ≡ get_or bytes k 0
+byte_number bytes k fits =
+    let whole : 8 * k % 8 ≡ 0 = omega arith in
+    let quotient : k ≡ 8 * k / 8 = omega arith in
+    sym (bits_number bytes (8 * k) 8 k (omega arith) quotient) ∙ ap (λ s. get_or bytes k 0 * 2 ^ s % 256 / 2 ^ 0) whole
+    ∙ (omega arith)
+
+-- the number of some bits in two parts
+number_parts : (bytes : List ℕ) (at n m : ℕ)
+    → number (some_bits bytes at (n + m)) ≡ number (some_bits bytes at n) * 2 ^ m + number (some_bits bytes (at + n) m)
+unfolding some_bits
+number_parts bytes at n m =
+    ap number (range_parts (line_bit bytes) at n m)
+    ∙ number-append (map (line_bit bytes) (range_with_len at n)) (map (line_bit bytes) (range_with_len (at + n) m))
+    ∙ ap (λ l. number (map (line_bit bytes) (range_with_len at n)) * 2 ^ l + number (map (line_bit bytes) (range_with_len (at + n) m))) (length-map-range_with_len (line_bit bytes) (at + n) m)
+
+-- a byte before other bits
+byte_before : (bytes : List ℕ) (k m : ℕ) → get_or bytes k 0 < 256
+    → number (some_bits bytes (8 * k) (8 + m)) ≡ get_or bytes k 0 * 2 ^ m + number (some_bits bytes (8 * (k + 1)) m)
+byte_before bytes k m fits =
+    let e : 8 * k + 8 ≡ 8 * (k + 1) = omega arith in
+    number_parts bytes (8 * k) 8 m ∙ ap (λ n. n * 2 ^ m + number (some_bits bytes (8 * k + 8) m)) (byte_number bytes k fits)
+    ∙ ap (λ at. get_or bytes k 0 * 2 ^ m + number (some_bits bytes at m)) e
+
+-- four bytes by their bits
+pub word_number : (bytes : List ℕ) (k n : ℕ) → ((i : ℕ) → get_or bytes i 0 < 256)
+    → n ≡ get_or bytes k 0 * 16777216 + get_or bytes (k + 1) 0 * 65536 + get_or bytes (k + 2) 0 * 256 + get_or bytes (k + 3) 0
+    → n ≡ number (some_bits bytes (8 * k) 32)
+word_number bytes k n fits is =
+    let first = byte_before bytes k 24 (fits k) in
+    let second = byte_before bytes (k + 1) 16 (fits (k + 1)) in
+    let third = byte_before bytes (k + 1 + 1) 8 (fits (k + 1 + 1)) in
+    let fourth = byte_number bytes (k + 1 + 1 + 1) (fits (k + 1 + 1 + 1)) in
+    let two : get_or bytes (k + 1 + 1) 0 ≡ get_or bytes (k + 2) 0 = ap (λ i. get_or bytes i 0) (omega arith) in
+    let three : get_or bytes (k + 1 + 1 + 1) 0 ≡ get_or bytes (k + 3) 0 = ap (λ i. get_or bytes i 0) (omega arith) in
+    omega (arith, first, second, third, fourth, two, three)
 
 -- nothing was read of a line without bits
 pub nothing_read : (r : Rules) → frames r [] ≡ unread
@@ -156,7 +202,3 @@ nothing_fed r register empty = record {
   bits = record { each = λ i. lit< tt };
   keeps = rw (nothing_read r, empty) (omega arith, refl);
 }
-
--- the first bits of some bytes are so many
-pub length-line_bits : (count : ℕ) (bytes : List ℕ) → length (line_bits count bytes) ≡ count
-length-line_bits count bytes = length-map-range_with_len (line_bit bytes) 0 count

@@ -60,7 +60,7 @@ pub record Hunting (r : Rules) (line group : List ℕ) (h n v register : ℕ) : 
   pub group_bits : AreBits group
   pub long : length group ≡ n
   pub made : number group ≡ v
-  pub few : n ≤ 8
+  pub few : n ≤ 32
   pub place : (frames r line).place ≡ hunts h
   pub within : h ≤ length line
   pub register_is : register ≡ number (drop h line) % 2 ^ 272
@@ -81,12 +81,12 @@ first_window r line group h n v register k hunt below =
 
 -- the newest bits so many bits ago
 second_window : (r : Rules) (line group : List ℕ) (h n v register k : ℕ) → Hunting r line group h n v register → k < n
-    → window ((register * 2 ^ n + v) % 2 ^ 272 % 2 ^ 32) k ≡ number (drop h (line ++ group)) / 2 ^ k % 2 ^ 16
+    → window ((register * 2 ^ n + v) % 2 ^ 272 % 2 ^ 64) k ≡ number (drop h (line ++ group)) / 2 ^ k % 2 ^ 16
 second_window r line group h n v register k hunt below =
-    let few : n ≤ 8 = hunt.few in
-    let low : (register * 2 ^ n + v) % 2 ^ 272 % 2 ^ 32 % 2 ^ 32 ≡ (register * 2 ^ n + v) % 2 ^ 32 =
-    mod-mod ((register * 2 ^ n + v) % 2 ^ 272) 32 32 (lit≤ tt) ∙ mod-mod (register * 2 ^ n + v) 272 32 (lit≤ tt) in
-    same_field ((register * 2 ^ n + v) % 2 ^ 272 % 2 ^ 32) (register * 2 ^ n + v) 32 k 16 low (omega arith)
+    let few : n ≤ 32 = hunt.few in
+    let low : (register * 2 ^ n + v) % 2 ^ 272 % 2 ^ 64 % 2 ^ 64 ≡ (register * 2 ^ n + v) % 2 ^ 64 =
+    mod-mod ((register * 2 ^ n + v) % 2 ^ 272) 64 64 (lit≤ tt) ∙ mod-mod (register * 2 ^ n + v) 272 64 (lit≤ tt) in
+    same_field ((register * 2 ^ n + v) % 2 ^ 272 % 2 ^ 64) (register * 2 ^ n + v) 64 k 16 low (omega arith)
     ∙ same_field (register * 2 ^ n + v) (number (drop h (line ++ group))) (272 + n) k 16 (pushed_number r line group h n v register hunt) (omega arith)
 
 -- all bits of a longer line
@@ -108,7 +108,7 @@ first_word r line group h n v register k p hunt below from end =
 -- and the second
 second_word : (r : Rules) (line group : List ℕ) (h n v register k p : ℕ) → Hunting r line group h n v register → k < n → h ≤ p
     → p + 272 + k ≡ length (line ++ group)
-    → header_of (drop (p + 256) (line ++ group)) ≡ window ((register * 2 ^ n + v) % 2 ^ 272 % 2 ^ 32) k
+    → header_of (drop (p + 256) (line ++ group)) ≡ window ((register * 2 ^ n + v) % 2 ^ 272 % 2 ^ 64) k
 second_word r line group h n v register k p hunt below from end =
     let bits : List ℕ = drop h (line ++ group) in
     let behind : h + (p + 256 - h) ≡ p + 256 = omega arith in
@@ -120,7 +120,7 @@ second_word r line group h n v register k p hunt below from end =
 -- both words stand at a place where they stand in the windows
 at_window : (r : Rules) (line group : List ℕ) (h n v register k p : ℕ) → Hunting r line group h n v register → k < n → h ≤ p
     → p + 272 + k ≡ length (line ++ group)
-    → locks_at r.words (line ++ group) p ≡ are_both r.words (window ((register * 2 ^ n + v) / 2 ^ 256) k) (window ((register * 2 ^ n + v) % 2 ^ 272 % 2 ^ 32) k)
+    → locks_at r.words (line ++ group) p ≡ are_both r.words (window ((register * 2 ^ n + v) / 2 ^ 256) k) (window ((register * 2 ^ n + v) % 2 ^ 272 % 2 ^ 64) k)
 at_window r line group h n v register k p hunt below from end =
     rw (first_word r line group h n v register k p hunt below from end, second_word r line group h n v register k p hunt below from end)
 
@@ -136,7 +136,7 @@ no_word words first second are small =
 -- before 272 bits have come since hunting began no words stand in a window
 too_early : (r : Rules) (line group : List ℕ) (h n v register k : ℕ) → Hunting r line group h n v register → AreWords r.words
     → k < n → length (line ++ group) < h + 272 + k
-    → are_both r.words (window ((register * 2 ^ n + v) / 2 ^ 256) k) (window ((register * 2 ^ n + v) % 2 ^ 272 % 2 ^ 32) k) ≡ false
+    → are_both r.words (window ((register * 2 ^ n + v) / 2 ^ 256) k) (window ((register * 2 ^ n + v) % 2 ^ 272 % 2 ^ 64) k) ≡ false
 too_early r line group h n v register k hunt are below early =
     let bits : List ℕ = drop h (line ++ group) in
     let size : length bits ≡ length (line ++ group) - h = length-drop h (line ++ group) in
@@ -177,7 +177,7 @@ new_place r line group h n v register q hunt from past within =
 
 -- the hunt goes on
 pub hunt_on : (r : Rules) (line group : List ℕ) (h n v register : ℕ) → Hunting r line group h n v register
-    → ((k : ℕ) → k < n → are_both r.words (window ((register * 2 ^ n + v) / 2 ^ 256) k) (window ((register * 2 ^ n + v) % 2 ^ 272 % 2 ^ 32) k) ≡ false)
+    → ((k : ℕ) → k < n → are_both r.words (window ((register * 2 ^ n + v) / 2 ^ 256) k) (window ((register * 2 ^ n + v) % 2 ^ 272 % 2 ^ 64) k) ≡ false)
     → frames r (line ++ group) ≡ frames r line
 hunt_on r line group h n v register hunt none =
     let unlocked = no_lock r.words (line ++ group) h (λ q from within. elim (cases_lt (length line) (q + 272)) [
@@ -190,10 +190,10 @@ hunt_on r line group h n v register hunt none =
 
 -- a lock is made
 pub hunt_ends : (r : Rules) (line group : List ℕ) (h n v register k : ℕ) → Hunting r line group h n v register → AreWords r.words
-    → IsEarliest r.words ((register * 2 ^ n + v) / 2 ^ 256) ((register * 2 ^ n + v) % 2 ^ 272 % 2 ^ 32) n k
+    → IsEarliest r.words ((register * 2 ^ n + v) / 2 ^ 256) ((register * 2 ^ n + v) % 2 ^ 272 % 2 ^ 64) n k
     → (p : ℕ) × (h ≤ p) × (p + 272 + k ≡ length (line ++ group)) × (frames r (line ++ group) ≡ record { events = (frames r line).events ++ (lock_made r (line ++ group) p).events; place = (lock_made r (line ++ group) p).place })
 hunt_ends r line group h n v register k hunt are found =
-    let few : n ≤ 8 = hunt.few in
+    let few : n ≤ 32 = hunt.few in
     let below : k < n = found.within in
     elim (cases_lt (length (line ++ group)) (h + 272 + k)) [
       | inl early ↦
@@ -229,7 +229,7 @@ gots-append (loses at ∷ xs) ys = gots-append xs ys
 
 -- what is kept while the hunt goes on
 pub hunted_on : (r : Rules) (line group : List ℕ) (h n v register : ℕ) → Hunting r line group h n v register
-    → ((k : ℕ) → k < n → are_both r.words (window ((register * 2 ^ n + v) / 2 ^ 256) k) (window ((register * 2 ^ n + v) % 2 ^ 272 % 2 ^ 32) k) ≡ false)
+    → ((k : ℕ) → k < n → are_both r.words (window ((register * 2 ^ n + v) / 2 ^ 256) k) (window ((register * 2 ^ n + v) % 2 ^ 272 % 2 ^ 64) k) ≡ false)
     → Takes (kept r None ((register * 2 ^ n + v) % 2 ^ 272)) line group None
 hunted_on r line group h n v register hunt none =
     let same = hunt_on r line group h n v register hunt none in
@@ -249,8 +249,8 @@ hunted_on r line group h n v register hunt none =
 -- what is kept where a lock is made
 pub hunted_lock : (r : Rules) (line group : List ℕ) (h n v register k : ℕ) (odd : Bool) → Hunting r line group h n v register
     → AreWords r.words
-    → IsEarliest r.words ((register * 2 ^ n + v) / 2 ^ 256) ((register * 2 ^ n + v) % 2 ^ 272 % 2 ^ 32) n k
-    → odd ≡ eqb (window ((register * 2 ^ n + v) % 2 ^ 272 % 2 ^ 32) k) (word r.words true)
+    → IsEarliest r.words ((register * 2 ^ n + v) / 2 ^ 256) ((register * 2 ^ n + v) % 2 ^ 272 % 2 ^ 64) n k
+    → odd ≡ eqb (window ((register * 2 ^ n + v) % 2 ^ 272 % 2 ^ 64) k) (word r.words true)
     → Takes (kept r (Some (record { odd = odd; missed = 0; held = 16 + k })) ((register * 2 ^ n + v) % 2 ^ 272)) line group None
 hunted_lock r line group h n v register k odd hunt are found is =
     let lock = hunt_ends r line group h n v register k hunt are found in
@@ -258,7 +258,7 @@ hunted_lock r line group h n v register k odd hunt are found is =
     let from : h ≤ p = lock.1 in
     let end : p + 272 + k ≡ length (line ++ group) = lock.2 in
     let same = lock.3 in
-    let few : n ≤ 8 = hunt.few in
+    let few : n ≤ 32 = hunt.few in
     let below : k < n = found.within in
     let place : (frames r (line ++ group)).place ≡ locked (p + 256) (eqb (header_of (drop (p + 256) (line ++ group))) (word r.words true)) 0 = ap (λ (s : Reading). s.place) same in
     let which : odd ≡ eqb (header_of (drop (p + 256) (line ++ group))) (word r.words true) =
@@ -294,7 +294,7 @@ hunt_place register line (locked at odd missed) keeps = absurd keeps
 
 -- what stands for a line without a lock hunts
 pub hunting_from : (r : Rules) (line group : List ℕ) (n v register : ℕ) → StandsFor (kept r None register) line → AreBits group
-    → length group ≡ n → number group ≡ v → n ≤ 8
+    → length group ≡ n → number group ≡ v → n ≤ 32
     → (h : ℕ) × Hunting r line group h n v register
 hunting_from r line group n v register stands are long made few =
     let at = hunt_place register line (frames r line).place stands.keeps in (
@@ -313,23 +313,23 @@ hunting_from r line group n v register stands are long made few =
 
 -- the hunt of the code, by the numbers that it compares
 pub code_on : (r : Rules) (line group : List ℕ) (n v register new oldest newest : ℕ) → StandsFor (kept r None register) line
-    → AreBits group → length group ≡ n → number group ≡ v → n ≤ 8
-    → new ≡ (register * 2 ^ n + v) % 2 ^ 272 → oldest ≡ (register * 2 ^ n + v) / 2 ^ 256 → newest ≡ new % 2 ^ 32
+    → AreBits group → length group ≡ n → number group ≡ v → n ≤ 32
+    → new ≡ (register * 2 ^ n + v) % 2 ^ 272 → oldest ≡ (register * 2 ^ n + v) / 2 ^ 256 → newest ≡ new % 2 ^ 64
     → ((k : ℕ) → k < n → are_both r.words (window oldest k) (window newest k) ≡ false) → Takes (kept r None new) line group None
 code_on r line group n v register new oldest newest stands are long made few pushed high low none =
     let from = hunting_from r line group n v register stands are long made few in
-    let low' : newest ≡ (register * 2 ^ n + v) % 2 ^ 272 % 2 ^ 32 = low ∙ ap (λ x. x % 2 ^ 32) pushed in
+    let low' : newest ≡ (register * 2 ^ n + v) % 2 ^ 272 % 2 ^ 64 = low ∙ ap (λ x. x % 2 ^ 64) pushed in
     let none' = λ (k : ℕ) (below : k < n). rw (high, low') at (none k below) in
     rw pushed (hunted_on r line group from.0 n v register from.1 none')
 
 -- and its lock
 pub code_lock : (r : Rules) (line group : List ℕ) (n v register new oldest newest k held : ℕ) (odd : Bool)
-    → StandsFor (kept r None register) line → AreBits group → length group ≡ n → number group ≡ v → n ≤ 8
-    → new ≡ (register * 2 ^ n + v) % 2 ^ 272 → oldest ≡ (register * 2 ^ n + v) / 2 ^ 256 → newest ≡ new % 2 ^ 32
+    → StandsFor (kept r None register) line → AreBits group → length group ≡ n → number group ≡ v → n ≤ 32
+    → new ≡ (register * 2 ^ n + v) % 2 ^ 272 → oldest ≡ (register * 2 ^ n + v) / 2 ^ 256 → newest ≡ new % 2 ^ 64
     → AreWords r.words → held ≡ 16 + k
     → IsEarliest r.words oldest newest n k → odd ≡ eqb (window newest k) (word r.words true)
     → Takes (kept r (Some (record { odd = odd; missed = 0; held = held })) new) line group None
 code_lock r line group n v register new oldest newest k held odd stands are long made few pushed high low words count found is =
     let from = hunting_from r line group n v register stands are long made few in
-    let low' : newest ≡ (register * 2 ^ n + v) % 2 ^ 272 % 2 ^ 32 = low ∙ ap (λ x. x % 2 ^ 32) pushed in
+    let low' : newest ≡ (register * 2 ^ n + v) % 2 ^ 272 % 2 ^ 64 = low ∙ ap (λ x. x % 2 ^ 64) pushed in
     rw (pushed, count) (hunted_lock r line group from.0 n v register k odd from.1 words (rw (high, low') at found) (rw low' at is))

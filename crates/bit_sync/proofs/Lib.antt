@@ -5,5 +5,6 @@ pub mod Holds
 pub mod Hunts
 pub mod Locks
 pub mod Registers
+pub mod Shapes
 pub mod Undamaged
 pub mod Walks

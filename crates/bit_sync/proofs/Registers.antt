@@ -30,9 +30,9 @@ word_pushed w word value count few fits small =
 pub pushed_out : (w word count : ℕ) → count ≤ w → word < 2 ^ w → word / 2 ^ (w - count) < 2 ^ count
 pushed_out w word count few fits = let whole : count + (w - count) ≡ w = omega arith in shr_below word count (w - count) (rw whole fits)
 
--- up to eight bits are a byte
-pub fits_byte : (count n : ℕ) → count ≤ 8 → n < 2 ^ count → n < 256
-fits_byte count n few small = let more = pow-le-pow_right {n = 2} (lit< tt) {i = count} {j = 8} few in omega arith
+-- up to 32 bits are a word
+pub fits_word : (count n : ℕ) → count ≤ 32 → n < 2 ^ count → n < 4294967296
+fits_word count n few small = let more = pow-le-pow_right {n = 2} (lit< tt) {i = count} {j = 32} few in omega arith
 
 -- three words with bits pushed in
 pub all_pushed : (o m l n v c1 c2 m' l' p : ℕ) → m * n + c1 ≡ c2 * p + m' → l * n + v ≡ c1 * p + l'
@@ -40,9 +40,9 @@ pub all_pushed : (o m l n v c1 c2 m' l' p : ℕ) → m * n + c1 ≡ c2 * p + m' 
 all_pushed o m l n v c1 c2 m' l' p middle newest = omega (arith, ap (λ x. x * p) middle)
 
 -- a word of sixteen bits with bits pushed in
-pub oldest_pushed : (o c count : ℕ) → o < 65536 → count ≤ 8 → c < 2 ^ count
-    → bit_or (o * 2 ^ count % 4294967296) c ≡ o * 2 ^ count + c
-oldest_pushed o c count fits few small = ap (λ x. bit_or x c) (shl_whole o 16 count 32 fits (omega arith)) ∙ or_shifted o count c small
+pub oldest_pushed : (o c count : ℕ) → o < 65536 → count ≤ 32 → c < 2 ^ count
+    → bit_or (o * 2 ^ count % 18446744073709551616) c ≡ o * 2 ^ count + c
+oldest_pushed o c count fits few small = ap (λ x. bit_or x c) (shl_whole o 16 count 64 fits (omega arith)) ∙ or_shifted o count c small
 
 -- the register with bits pushed in, by its words
 pub record IsPushed (self n v o m l c1 c2 m' l' : ℕ) : Type 0 where

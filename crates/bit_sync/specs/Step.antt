@@ -1,11 +1,18 @@
 -- What a receiver does with some bits more.
-use Rattle.std.specs.Prelude.{◌≡◌, ℕ, ◌+◌, ◌/◌, ◌%◌, ◌^◌, ◌<◌, ◌≤◌, Bool, true, false, not, nat_le, if◌then◌else◌, is_some, List, ◌++◌, length, Option, Some, None}
+use Rattle.std.specs.Prelude.{◌≡◌, ℕ, ◌+◌, ◌/◌, ◌%◌, ◌^◌, ◌<◌, ◌≤◌, Bool, true, false, not, nat_le, if◌then◌else◌, is_some, List, ◌++◌, map, length, Option, Some, None}
+use Rattle.std.specs.List.{range_with_len}
 use Rattle.std.specs.Option.{ForSome}
+use Rattle.ld_base.specs.Bits.{line_bit}
 use Rattle.ld_base.specs.Words.{HeaderWords}
-use Rattle.bit_sync.specs.Frames.{Rules, are_both, frames, gots, listed, position}
+use Rattle.bit_sync.specs.Frames.{Rules, are_both, frames, gots, position}
+pub use Rattle.bit_sync.specs.Frames.{listed}
 use Rattle.bit_sync.specs.StandsFor.{Kept, StandsFor}
 use Rattle.bit_sync.specs.declared.lock.Lock.{Lock}
 use Rattle.bit_sync.specs.declared.told.Got.{Got}
+
+-- so many bits of bytes, from a place on
+unfoldable pub some_bits : List ℕ → ℕ → ℕ → List ℕ
+some_bits bytes at count = map (line_bit bytes) (range_with_len at count)
 
 -- the rules of a line
 abbrev pub rules : HeaderWords → ℕ → ℕ → Rules

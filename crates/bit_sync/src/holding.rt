@@ -24,13 +24,13 @@ pub(crate) struct Taken {
 pub(crate) fn held(
     register: &mut Register,
     lock: Lock,
-    value: u8,
+    value: u32,
     count: u8,
     channels: u8,
     words: &Words,
     misses: u8,
 ) -> Taken
-    requires few { (1 ≤ count) × (count ≤ 8) }
+    requires few { (1 ≤ count) × (count ≤ 32) }
     requires small { value < 2 ^ count }
     requires room { lock.held + count ≤ 256 }
     requires channels { (1 ≤ channels) × (channels ≤ 12) }

@@ -1,11 +1,10 @@
-ghost use Rattle.std.specs.Prelude.{◌≡◌, ◌≤◌, ◌<◌, ◌+◌, ◌*◌, ◌%◌, ◌/◌, ◌^◌, ◌++◌, ℕ, Some, List, [], length, map};
-ghost use Rattle.std.specs.List.{range_with_len};
+ghost use Rattle.std.specs.Prelude.{◌≡◌, ◌≤◌, ◌<◌, ◌+◌, ◌*◌, ◌%◌, ◌/◌, ◌^◌, ◌++◌, ℕ, Some, List, [], length};
 ghost use Rattle.std.specs.Option.{ForSome};
-ghost use Rattle.ld_base.specs.Bits.{line_bit, line_bits};
+ghost use Rattle.ld_base.specs.Bits.{line_bits};
 ghost use Rattle.c3794_frame.specs.Numbers.{AreBits, number};
 ghost use Rattle.bit_sync.specs.Frames.{frames, listed, gots, is_locked};
 ghost use Rattle.bit_sync.specs.StandsFor.{StandsFor, state_of};
-ghost use Rattle.bit_sync.specs.Step.{Fills, FitsLock, Takes, kept, rules};
+ghost use Rattle.bit_sync.specs.Step.{Fills, FitsLock, Takes, kept, rules, some_bits};
 
 use crate::holding::{Taken, held, whole_frame};
 use crate::hunting::hunted;
@@ -128,7 +127,7 @@ impl Receiver {
         taken.frame
     }
 
-    // Takes in bits, up to eight at a time, none of them behind the end of a frame.
+    // Takes in bits, up to 32 at a time, none of them behind the end of a frame.
     fn take_bits(&mut self, bytes: &[u8; 32], count: u16) -> Option<Got>
         requires { count ≤ 256 }
         ensures rules { self.new.rules ≡ self.old.rules }
@@ -137,9 +136,9 @@ impl Receiver {
         let mut frame = None;
         let mut done = 0;
         while done < count {
-            let some = (count - done).min(8 - done % 8).min(self.room()) as u8;
-            frame = self.take(bits_from(bytes, done, some), some).or(frame);
-            done += u16::from(some);
+            let some = next_bits(bytes, done, (count - done).min(self.room()));
+            frame = self.take(some.value, some.count).or(frame);
+            done += u16::from(some.count);
         }
         frame
     }
@@ -156,8 +155,8 @@ impl Receiver {
     }
 
     // Takes in some bits that end no frame but the present one.
-    fn take(&mut self, value: u8, count: u8) -> Option<Got>
-        requires few { (1 ≤ count) × (count ≤ 8) }
+    fn take(&mut self, value: u32, count: u8) -> Option<Got>
+        requires few { (1 ≤ count) × (count ≤ 32) }
         requires small { value < 2 ^ count }
         requires room { ForSome self.old.lock (λ l. l.held + count ≤ 256) }
         ensures rules { self.new.rules ≡ self.old.rules }
@@ -181,13 +180,13 @@ impl Receiver {
 fn took(
     register: &mut Register,
     lock: Option<Lock>,
-    value: u8,
+    value: u32,
     count: u8,
     channels: u8,
     words: &Words,
     misses: u8,
 ) -> Taken
-    requires few { (1 ≤ count) × (count ≤ 8) }
+    requires few { (1 ≤ count) × (count ≤ 32) }
     requires small { value < 2 ^ count }
     requires room { ForSome lock (λ l. l.held + count ≤ 256) }
     requires channels { (1 ≤ channels) × (channels ≤ 12) }
@@ -207,11 +206,51 @@ fn took(
     }
 }
 
+// Some bits as a number.
+#[derive(Clone, Copy, Debug, PartialEq, Eq)]
+struct Bits {
+    value: u32,
+    count: u8,
+}
+
+// The next bits of bytes from a place on, of so many at most: four whole bytes, or else what is left of one.
+fn next_bits(bytes: &[u8; 32], at: u16, most: u16) -> Bits
+    requires { (1 ≤ most) × (at + most ≤ 256) }
+    ensures some { (1 ≤ result.count) × (result.count ≤ 32) × (result.count ≤ most) }
+    ensures number { result.value ≡ number (some_bits bytes.now at result.count) }
+    ensures small { result.value < 2 ^ result.count }
+{
+    if at % 8 == 0 && most >= 32 {
+        return Bits {
+            value: four_bytes(bytes, usize::from(at / 8)),
+            count: 32,
+        };
+    }
+    let count = most.min(8 - at % 8) as u8;
+    Bits {
+        value: u32::from(bits_from(bytes, at, count)),
+        count,
+    }
+}
+
+// Four bytes as a number, the first the highest.
+fn four_bytes(bytes: &[u8; 32], from: usize) -> u32
+    requires { from + 4 ≤ 32 }
+    ensures { result ≡ number (some_bits bytes.now (8 * from) 32) }
+{
+    u32::from_be_bytes([
+        bytes[from],
+        bytes[from + 1],
+        bytes[from + 2],
+        bytes[from + 3],
+    ])
+}
+
 // Some bits of bytes, all of them in one byte, as a number.
 fn bits_from(bytes: &[u8; 32], at: u16, count: u8) -> u8
     requires count { (1 ≤ count) × (at % 8 + count ≤ 8) }
     requires within { at < 256 }
-    ensures number { result ≡ number (map (line_bit bytes.now) (range_with_len at count)) }
+    ensures number { result ≡ number (some_bits bytes.now at count) }
     ensures small { result < 2 ^ count }
 {
     bytes[usize::from(at / 8)] << (at % 8) >> (8 - count)

@@ -35,9 +35,9 @@ impl Register {
         }
     }
 
-    /// Takes in some bits, 1 to 8, and gives the bits from the oldest sixteen on that stood behind the newest 256 then.
-    pub(crate) fn push(&mut self, value: u8, count: u8) -> u32
-        requires few { (1 ≤ count) × (count ≤ 8) }
+    /// Takes in some bits, 1 to 32, and gives the bits from the oldest sixteen on that stand behind the newest 256 then.
+    pub(crate) fn push(&mut self, value: u32, count: u8) -> u64
+        requires few { (1 ≤ count) × (count ≤ 32) }
         requires small { value < 2 ^ count }
         ensures register { self.new ≡ (self.old * 2 ^ count + value) % 2 ^ 272 }
         ensures oldest { result ≡ (self.old * 2 ^ count + value) / 2 ^ 256 }
@@ -51,11 +51,11 @@ impl Register {
         oldest
     }
 
-    /// The newest 32 bits.
-    pub(crate) fn newest(&self) -> u32
-        ensures { result ≡ self.now % 2 ^ 32 }
+    /// The newest 64 bits.
+    pub(crate) fn newest(&self) -> u64
+        ensures { result ≡ self.now % 2 ^ 64 }
     {
-        (self.newest & 0xFFFF_FFFF) as u32
+        (self.newest & 0xFFFF_FFFF_FFFF_FFFF) as u64
     }
 
     /// The newest 256 bits as bytes.
@@ -67,25 +67,25 @@ impl Register {
     }
 }
 
-// A word with some bits, 1 to 8, pushed in, and the bits that are pushed out.
-fn pushed(word: u128, value: u8, count: u8) -> (u128, u8)
-    requires few { (1 ≤ count) × (count ≤ 8) }
+// A word with some bits, 1 to 32, pushed in, and the bits that are pushed out.
+fn pushed(word: u128, value: u32, count: u8) -> (u128, u32)
+    requires few { (1 ≤ count) × (count ≤ 32) }
     requires small { value < 2 ^ count }
     ensures all { word * 2 ^ count + value ≡ result.1 * 2 ^ 128 + result.0 }
     ensures word { result.0 < 2 ^ 128 }
     ensures out { result.1 < 2 ^ count }
 {
-    let out = (word >> (128 - count)) as u8;
+    let out = (word >> (128 - count)) as u32;
     (word << count | u128::from(value), out)
 }
 
-// The oldest sixteen bits and some more behind them, 1 to 8.
-fn extended(oldest: u16, value: u8, count: u8) -> u32
-    requires few { (1 ≤ count) × (count ≤ 8) }
+// The oldest sixteen bits and some more behind them, 1 to 32.
+fn extended(oldest: u16, value: u32, count: u8) -> u64
+    requires few { (1 ≤ count) × (count ≤ 32) }
     requires small { value < 2 ^ count }
     ensures { result ≡ oldest * 2 ^ count + value }
 {
-    u32::from(oldest) << count | u32::from(value)
+    u64::from(oldest) << count | u64::from(value)
 }
 
 // The bytes of 256 bits in two words.
