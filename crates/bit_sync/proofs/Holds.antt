@@ -5,7 +5,7 @@ use Rattle.std.proofs.lemmas.List.{append-nil, drop_all, length-drop, take_all}
 use Rattle.std.proofs.lemmas.Nat.{mod-mul-add}
 use Rattle.c3794_frame.specs.Numbers.{AreBits, number}
 use Rattle.c3794_frame.proofs.Numbers.{are_append, are_drop, number-lt, same_number}
-use Rattle.bit_sync.specs.Frames.{Place, Reading, Rules, ending, frame_judged, frames, got, gots, missed_after, onward, place_after, position}
+use Rattle.bit_sync.specs.Frames.{Event, Place, Reading, Rules, ending, frame_judged, frames, got, gots, missed_after, onward, place_after, position}
 use Rattle.bit_sync.specs.Frames.Event.{ends, loses}
 use Rattle.bit_sync.specs.Frames.Place.{hunts, locked}
 use Rattle.bit_sync.specs.StandsFor.{Keeps, StandsFor}
@@ -94,69 +94,92 @@ frame_ends r lock register line group frame at locks_so full is =
     let after : position (frame_judged r at lock.odd lock.missed frame).place ≡ at + 256 = position_after r (at + 256) lock.odd missed in
     frames_step r line group (frame_judged r at lock.odd lock.missed frame) step (omega arith)
 
+-- where a frame ends: it began at a bit within a frame's length of the line's end, and the longer line ends with it
+record FrameEnd (r : Rules) (lock : Lock) (line group frame : List ℕ) (at : ℕ) : Type 0 where
+  bits : AreBits (line ++ group)
+  short : length line < at + 256
+  end : length (line ++ group) ≡ at + 256
+  rest : drop (at + 256) (line ++ group) ≡ []
+  before : position (frames r line).place ≡ at
+  reading : frames r (line ++ group) ≡ record {
+    events = (frames r line).events ++ ending r (at + 256) (got r lock.odd frame) (missed_after r lock.odd frame lock.missed);
+    place = place_after r (at + 256) lock.odd (missed_after r lock.odd frame lock.missed);
+  }
+
+-- by what stands for the line
+frame_end : (r : Rules) (lock : Lock) (register : ℕ) (line group frame : List ℕ)
+    → StandsFor (kept r (Some lock) register) line → AreBits group → lock.held + length group ≡ 256 → 0 < length group
+    → drop (length line - lock.held) (line ++ group) ≡ frame → (at : ℕ) × FrameEnd r lock line group frame at
+frame_end r lock register line group frame stands are full some is =
+    let from = locked_from r lock register line stands in
+    let at : ℕ = from.0 in
+    let end : at + lock.held ≡ length line = from.1.end in
+    let begin : length line - lock.held ≡ at = omega arith in
+    let is' : drop at (line ++ group) ≡ frame = rw begin at is in
+    let size : length (line ++ group) ≡ at + 256 = length-append line group ∙ (omega arith) in (
+      at,
+      record {
+        bits = are_append line group stands.bits are;
+        short = omega arith;
+        end = size;
+        rest = drop_all (at + 256) (line ++ group) (omega arith);
+        before = ap position from.1.place;
+        reading = frame_ends r lock register line group frame at from.1 full is';
+      },
+    )
+
+-- what is taken in with a frame, by where the reading stands then
+taken_frame : (r : Rules) (lock : Lock) (line group frame : List ℕ) (at : ℕ) (after : Option Lock) (register : ℕ) (place : Place) (events : List Event)
+    → FrameEnd r lock line group frame at
+    → place_after r (at + 256) lock.odd (missed_after r lock.odd frame lock.missed) ≡ place
+    → ending r (at + 256) (got r lock.odd frame) (missed_after r lock.odd frame lock.missed) ≡ events
+    → gots events ≡ got r lock.odd frame ∷ [] → position place ≡ at + 256
+    → Keeps after register (line ++ group) place → Takes (kept r after register) line group (Some (got r lock.odd frame))
+taken_frame r lock line group frame at after register place events h stood came told there keeps =
+    let e : List Event = (frames r line).events in
+    let place' : (frames r (line ++ group)).place ≡ place = ap (λ (s : Reading). s.place) h.reading ∙ stood in
+    let position' : position (frames r (line ++ group)).place ≡ at + 256 = ap position place' ∙ there in
+    let short = h.short in
+    let end = h.end in
+    let before = h.before in
+    record {
+      stands = record { bits = h.bits; keeps = rw place' keeps };
+      told = ap (λ (s : Reading). gots s.events) h.reading ∙ gots-append e _ ∙ ap (λ es. gots e ++ gots es) came
+          ∙ ap (λ gs. gots e ++ gs) told;
+      later = omega arith;
+      whole = λ some. omega arith;
+      past = λ some. omega arith;
+    }
+
 -- a frame ends, and the lock with it
 pub frame_lost : (r : Rules) (lock : Lock) (register : ℕ) (line group frame : List ℕ)
     → StandsFor (kept r (Some lock) register) line → AreBits group → lock.held + length group ≡ 256 → 0 < length group
     → drop (length line - lock.held) (line ++ group) ≡ frame → nat_le r.misses (missed_after r lock.odd frame lock.missed) ≡ true
     → Takes (kept r None 0) line group (Some (got r lock.odd frame))
 frame_lost r lock register line group frame stands are full some is lost =
-    let from = locked_from r lock register line stands in
+    let from = frame_end r lock register line group frame stands are full some is in
     let at : ℕ = from.0 in
-    let end : at + lock.held ≡ length line = from.1.end in
-    let begin : length line - lock.held ≡ at = omega arith in
-    let is' : drop at (line ++ group) ≡ frame = rw begin at is in
-    let size : length (line ++ group) ≡ at + 256 = length-append line group ∙ (omega arith) in
-    let reading = frame_ends r lock register line group frame at from.1 full is' in
+    let end = from.1.end in
     let g : Got = got r lock.odd frame in
-    let place : (frames r (line ++ group)).place ≡ hunts (at + 256) = ap (λ (s : Reading). s.place) reading ∙ ap (λ t. if t then hunts (at + 256) else locked (at + 256) (not lock.odd) (missed_after r lock.odd frame lock.missed)) lost in
-    let events : ending r (at + 256) g (missed_after r lock.odd frame lock.missed) ≡ ends (at + 256) g ∷ loses (at + 256) ∷ [] =
-    ap (λ t. if t then ends (at + 256) g ∷ loses (at + 256) ∷ [] else ends (at + 256) g ∷ []) lost in
-    let told = ap (λ (s : Reading). gots s.events) reading ∙ gots-append (frames r line).events _ ∙ ap (λ es. gots (frames r line).events ++ gots es) events in
-    let none : drop (at + 256) (line ++ group) ≡ [] = drop_all (at + 256) (line ++ group) (omega arith) in
-    let before : position (frames r line).place ≡ at = ap position from.1.place in
-    let after : position (frames r (line ++ group)).place ≡ at + 256 = ap position place in
-    record {
-      stands = record {
-        bits = are_append line group stands.bits are;
-        keeps = rw (place, none) (omega arith, refl);
-      };
-      told = told;
-      later = omega arith;
-      whole = λ e. omega arith;
-      past = λ e. omega arith;
-    }
+    let missed : ℕ = missed_after r lock.odd frame lock.missed in
+    taken_frame r lock line group frame at None 0 (hunts (at + 256)) (ends (at + 256) g ∷ loses (at + 256) ∷ []) from.1
+    (ap (λ t. if t then hunts (at + 256) else locked (at + 256) (not lock.odd) missed) lost)
+    (ap (λ t. if t then ends (at + 256) g ∷ loses (at + 256) ∷ [] else ends (at + 256) g ∷ []) lost) refl refl (omega arith, rw from.1.rest refl)
 
 -- a frame ends, and the lock goes on
 pub frame_kept : (r : Rules) (lock : Lock) (register new : ℕ) (line group frame : List ℕ)
     → StandsFor (kept r (Some lock) register) line → AreBits group → lock.held + length group ≡ 256 → 0 < length group
     → drop (length line - lock.held) (line ++ group) ≡ frame → nat_le r.misses (missed_after r lock.odd frame lock.missed) ≡ false
     → Takes (kept r (Some (record { odd = not lock.odd; missed = missed_after r lock.odd frame lock.missed; held = 0 })) new) line group (Some (got r lock.odd frame))
-frame_kept r lock register new line group frame stands are full some is kept_so =
-    let from = locked_from r lock register line stands in
+frame_kept r lock register new line group frame stands are full some is on =
+    let from = frame_end r lock register line group frame stands are full some is in
     let at : ℕ = from.0 in
-    let end : at + lock.held ≡ length line = from.1.end in
-    let begin : length line - lock.held ≡ at = omega arith in
-    let is' : drop at (line ++ group) ≡ frame = rw begin at is in
-    let size : length (line ++ group) ≡ at + 256 = length-append line group ∙ (omega arith) in
-    let reading = frame_ends r lock register line group frame at from.1 full is' in
+    let end = from.1.end in
     let g : Got = got r lock.odd frame in
     let missed : ℕ = missed_after r lock.odd frame lock.missed in
-    let place : (frames r (line ++ group)).place ≡ locked (at + 256) (not lock.odd) missed = ap (λ (s : Reading). s.place) reading ∙ ap (λ t. if t then hunts (at + 256) else locked (at + 256) (not lock.odd) missed) kept_so in
-    let events : ending r (at + 256) g missed ≡ ends (at + 256) g ∷ [] = ap (λ t. if t then ends (at + 256) g ∷ loses (at + 256) ∷ [] else ends (at + 256) g ∷ []) kept_so in
-    let told = ap (λ (s : Reading). gots s.events) reading ∙ gots-append (frames r line).events _ ∙ ap (λ es. gots (frames r line).events ++ gots es) events in
-    let none : drop (at + 256) (line ++ group) ≡ [] = drop_all (at + 256) (line ++ group) (omega arith) in
-    let before : position (frames r line).place ≡ at = ap position from.1.place in
-    let after : position (frames r (line ++ group)).place ≡ at + 256 = ap position place in
-    record {
-      stands = record {
-        bits = are_append line group stands.bits are;
-        keeps = rw (place, none) (refl, refl, omega arith, omega arith);
-      };
-      told = told;
-      later = omega arith;
-      whole = λ e. omega arith;
-      past = λ e. omega arith;
-    }
+    taken_frame r lock line group frame at (Some (record { odd = not lock.odd; missed = missed; held = 0 })) new (locked (at + 256) (not lock.odd) missed) (ends (at + 256) g ∷ []) from.1
+    (ap (λ t. if t then hunts (at + 256) else locked (at + 256) (not lock.odd) missed) on)
+    (ap (λ t. if t then ends (at + 256) g ∷ loses (at + 256) ∷ [] else ends (at + 256) g ∷ []) on) refl refl (refl, refl, omega arith, omega arith)
 
 -- the bits of a frame in the register are those on the line
 pub frame_is : (r : Rules) (lock : Lock) (register n v new : ℕ) (line group frame : List ℕ)

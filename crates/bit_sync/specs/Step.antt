@@ -8,6 +8,7 @@ use Rattle.bit_sync.specs.Frames.{Rules, are_both, frames, gots, position}
 pub use Rattle.bit_sync.specs.Frames.{listed}
 use Rattle.bit_sync.specs.StandsFor.{Kept, StandsFor}
 use Rattle.bit_sync.specs.declared.lock.Lock.{Lock}
+use Rattle.bit_sync.specs.declared.profile.Profile.{Profile}
 use Rattle.bit_sync.specs.declared.told.Got.{Got}
 
 -- so many bits of bytes, from a place on
@@ -17,6 +18,10 @@ some_bits bytes at count = map (line_bit bytes) (range_with_len at count)
 -- the rules of a line
 abbrev pub rules : HeaderWords → ℕ → ℕ → Rules
 rules words misses channels = record { words = words; misses = misses; channels = channels }
+
+-- the rules of a profile
+abbrev pub rules_of : Profile → Rules
+rules_of p = rules p.words p.misses p.channels
 
 -- what is kept with these rules
 abbrev pub kept : Rules → Option Lock → ℕ → Kept

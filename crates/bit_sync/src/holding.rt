@@ -5,9 +5,10 @@ ghost use Rattle.c3794_frame.specs.FrameOf.{header_of, word};
 ghost use Rattle.c3794_frame.specs.Numbers.{AreBits, bits_of, number};
 ghost use Rattle.bit_sync.specs.Frames.{got, got_if, missed_after};
 ghost use Rattle.bit_sync.specs.StandsFor.{StandsFor};
-ghost use Rattle.bit_sync.specs.Step.{FitsLock, Takes, kept, lock_after, rules};
+ghost use Rattle.bit_sync.specs.Step.{FitsLock, Takes, kept, lock_after, rules_of};
 
 use crate::lock::Lock;
+use crate::profile::Profile;
 use crate::register::Register;
 use crate::told::Got;
 use c3794_frame::{FrameFault, decode, header_word};
@@ -26,19 +27,17 @@ pub(crate) fn held(
     lock: Lock,
     value: u32,
     count: u8,
-    channels: u8,
-    words: &Words,
-    misses: u8,
+    profile: &Profile,
 ) -> Taken
     requires few { (1 ≤ count) × (count ≤ 32) }
     requires small { value < 2 ^ count }
     requires room { lock.held + count ≤ 256 }
-    requires channels { (1 ≤ channels) × (channels ≤ 12) }
-    requires misses { (lock.missed < misses) × (misses ≤ 10) }
+    requires channels { (1 ≤ profile.now.channels) × (profile.now.channels ≤ 12) }
+    requires misses { (lock.missed < profile.now.misses) × (profile.now.misses ≤ 10) }
     ensures takes { (line group : List ℕ) → length group ≡ count → AreBits group → number group ≡ value
-        → let r = rules words.now misses channels in
+        → let r = rules_of profile.now in
         StandsFor (kept r (Some lock) register.old) line → Takes (kept r result.lock register.new) line group result.frame }
-    ensures fits { FitsLock misses result.lock }
+    ensures fits { FitsLock profile.now.misses result.lock }
 {
     register.push(value, count);
     let held = lock.held + u16::from(count);
@@ -53,7 +52,7 @@ pub(crate) fn held(
         };
     }
     let frame = register.frame();
-    whole_frame(register, &frame, lock, channels, words, misses)
+    whole_frame(register, &frame, lock, profile)
 }
 
 /// Takes the whole present frame. Where the lock ends with it, the register is emptied, and else it stays.
@@ -61,19 +60,17 @@ pub(crate) fn whole_frame(
     register: &mut Register,
     frame: &[u8; 32],
     lock: Lock,
-    channels: u8,
-    words: &Words,
-    misses: u8,
+    profile: &Profile,
 ) -> Taken
-    requires channels { (1 ≤ channels) × (channels ≤ 12) }
-    requires misses { (lock.missed < misses) × (misses ≤ 10) }
+    requires channels { (1 ≤ profile.now.channels) × (profile.now.channels ≤ 12) }
+    requires misses { (lock.missed < profile.now.misses) × (profile.now.misses ≤ 10) }
     ensures takes { (before : ℕ) (line group : List ℕ) → AreBits group → lock.held + length group ≡ 256 → 0 < length group
         → drop (length line - lock.held) (line ++ group) ≡ bits_of frame.now
-        → let r = rules words.now misses channels in
+        → let r = rules_of profile.now in
         StandsFor (kept r (Some lock) before) line → Takes (kept r result.lock register.new) line group result.frame }
-    ensures fits { FitsLock misses result.lock }
+    ensures fits { FitsLock profile.now.misses result.lock }
 {
-    let judged = judged(frame, lock, channels, words, misses);
+    let judged = judged(frame, lock, profile);
     match judged.lock {
         None => {
             *register = Register::zeros();
@@ -97,17 +94,17 @@ pub(crate) struct Ended {
 }
 
 /// Judges the bits of a whole frame by the lock.
-pub(crate) fn judged(frame: &[u8; 32], lock: Lock, channels: u8, words: &Words, misses: u8) -> Ended
-    requires channels { (1 ≤ channels) × (channels ≤ 12) }
-    requires misses { (lock.missed < misses) × (misses ≤ 10) }
-    ensures got { result.got ≡ got (rules words.now misses channels) lock.odd (bits_of frame.now) }
-    ensures lock { result.lock ≡ lock_after misses lock.odd (missed_after (rules words.now misses channels) lock.odd (bits_of frame.now) lock.missed) }
-    ensures fits { FitsLock misses result.lock }
+pub(crate) fn judged(frame: &[u8; 32], lock: Lock, profile: &Profile) -> Ended
+    requires channels { (1 ≤ profile.now.channels) × (profile.now.channels ≤ 12) }
+    requires misses { (lock.missed < profile.now.misses) × (profile.now.misses ≤ 10) }
+    ensures got { result.got ≡ got (rules_of profile.now) lock.odd (bits_of frame.now) }
+    ensures lock { result.lock ≡ lock_after profile.now.misses lock.odd (missed_after (rules_of profile.now) lock.odd (bits_of frame.now) lock.missed) }
+    ensures fits { FitsLock profile.now.misses result.lock }
 {
-    let expected = is_expected(frame, lock.odd, words);
+    let expected = is_expected(frame, lock.odd, &profile.words);
     Ended {
-        got: got_of(frame, expected, channels, words),
-        lock: lock_after(lock, expected, misses),
+        got: got_of(frame, expected, profile.channels, &profile.words),
+        lock: lock_after(lock, expected, profile.misses),
     }
 }
 

@@ -5,6 +5,7 @@ mod holding;
 mod hunting;
 pub mod laws;
 mod lock;
+mod profile;
 mod receiver;
 mod register;
 mod told;

@@ -4,11 +4,12 @@ ghost use Rattle.ld_base.specs.Bits.{line_bits};
 ghost use Rattle.c3794_frame.specs.Numbers.{AreBits, number};
 ghost use Rattle.bit_sync.specs.Frames.{frames, listed, gots, is_locked};
 ghost use Rattle.bit_sync.specs.StandsFor.{StandsFor, state_of};
-ghost use Rattle.bit_sync.specs.Step.{Fills, FitsLock, Takes, kept, rules, some_bits};
+ghost use Rattle.bit_sync.specs.Step.{Fills, FitsLock, Takes, kept, rules, rules_of, some_bits};
 
 use crate::holding::{Taken, held, whole_frame};
 use crate::hunting::hunted;
 use crate::lock::Lock;
+use crate::profile::Profile;
 use crate::register::Register;
 use crate::told::{Fed, Got, SyncState};
 use ld_base::{Chunk, Words};
@@ -22,9 +23,7 @@ const FRAME_BITS: u16 = 256;
 /// frame is that of IEEE C37.94.)
 #[derive(Debug, Drop)]
 pub struct Receiver {
-    channels: u8,
-    words: Words,
-    misses: u8,
+    profile: Profile,
     lock: Option<Lock>,
     register: Register,
 }
@@ -50,9 +49,11 @@ impl Receiver {
         ensures empty { StandsFor result [] }
     {
         Receiver {
-            channels,
-            words,
-            misses,
+            profile: Profile {
+                channels,
+                words,
+                misses,
+            },
             lock: None,
             register: Register::zeros(),
         }
@@ -115,14 +116,7 @@ impl Receiver {
         ensures rules { self.new.rules ≡ self.old.rules }
         ensures fills { (line : List ℕ) → StandsFor self.old line → Fills self.new line (line_bits 256 bytes.now) result }
     {
-        let taken = whole_frame(
-            &mut self.register,
-            bytes,
-            lock,
-            self.channels,
-            &self.words,
-            self.misses,
-        );
+        let taken = whole_frame(&mut self.register, bytes, lock, &self.profile);
         self.lock = taken.lock;
         taken.frame
     }
@@ -162,15 +156,7 @@ impl Receiver {
         ensures rules { self.new.rules ≡ self.old.rules }
         ensures takes { (line group : List ℕ) → length group ≡ count → AreBits group → number group ≡ value → StandsFor self.old line → Takes self.new line group result }
     {
-        let taken = took(
-            &mut self.register,
-            self.lock,
-            value,
-            count,
-            self.channels,
-            &self.words,
-            self.misses,
-        );
+        let taken = took(&mut self.register, self.lock, value, count, &self.profile);
         self.lock = taken.lock;
         taken.frame
     }
@@ -182,27 +168,25 @@ fn took(
     lock: Option<Lock>,
     value: u32,
     count: u8,
-    channels: u8,
-    words: &Words,
-    misses: u8,
+    profile: &Profile,
 ) -> Taken
     requires few { (1 ≤ count) × (count ≤ 32) }
     requires small { value < 2 ^ count }
     requires room { ForSome lock (λ l. l.held + count ≤ 256) }
-    requires channels { (1 ≤ channels) × (channels ≤ 12) }
-    requires misses { (1 ≤ misses) × (misses ≤ 10) }
-    requires lock { FitsLock misses lock }
+    requires channels { (1 ≤ profile.now.channels) × (profile.now.channels ≤ 12) }
+    requires misses { (1 ≤ profile.now.misses) × (profile.now.misses ≤ 10) }
+    requires lock { FitsLock profile.now.misses lock }
     ensures takes { (line group : List ℕ) → length group ≡ count → AreBits group → number group ≡ value
-        → let r = rules words.now misses channels in
+        → let r = rules_of profile.now in
         StandsFor (kept r lock register.old) line → Takes (kept r result.lock register.new) line group result.frame }
-    ensures fits { FitsLock misses result.lock }
+    ensures fits { FitsLock profile.now.misses result.lock }
 {
     match lock {
         None => Taken {
             frame: None,
-            lock: hunted(register, value, count, words),
+            lock: hunted(register, value, count, &profile.words),
         },
-        Some(lock) => held(register, lock, value, count, channels, words, misses),
+        Some(lock) => held(register, lock, value, count, profile),
     }
 }
 

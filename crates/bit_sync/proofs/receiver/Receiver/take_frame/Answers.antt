@@ -2,7 +2,7 @@ use Rattle.std.proofs.Common.{◌≡◌, ℕ, ◌+◌, ◌*◌, ◌<◌, List, l
 use Rattle.c3794_frame.specs.Numbers.{bits_of}
 use Rattle.c3794_frame.proofs.Numbers.{are_bits_of, length-bits_of}
 use Rattle.bit_sync.specs.StandsFor.{Kept, StandsFor}
-use Rattle.bit_sync.specs.Step.{Fills, kept, rules}
+use Rattle.bit_sync.specs.Step.{Fills, kept, rules_of}
 use Rattle.bit_sync.specs.declared.lock.Lock.{Lock}
 use Rattle.bit_sync.proofs.Fills.{behind_line, fills_all, whole_bits}
 use Rattle.bit_sync.proofs.receiver.Receiver.take_frame.Goals as goal
@@ -10,7 +10,7 @@ use Rattle.bit_sync.proofs.receiver.Receiver.take_frame.Goals as goal
 pub returns-clause-fills : goal.returns-clause-fills
 returns-clause-fills c line stands =
     let bytes : List ℕ = c.args.bytes.now in
-    let r = rules c.self.inside.words c.self.inside.misses c.self.inside.channels in
+    let r = rules_of c.self.inside.profile in
     let long : length bytes ≡ 32 = c.told-bytes in
     let size : length (bits_of bytes) ≡ 256 = length-bits_of bytes ∙ ap (λ n. 8 * n) long in
     let none : c.args.lock.held ≡ 0 = c.requires.1 in
