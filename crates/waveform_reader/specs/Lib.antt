@@ -1,0 +1,11 @@
+pub mod Ahead
+pub mod Columns
+pub mod Draft
+pub mod Head
+pub mod Names
+pub mod Numbers
+pub mod Progress
+pub mod Refusals
+pub mod Scenario
+pub mod Shapes
+pub mod Sound
