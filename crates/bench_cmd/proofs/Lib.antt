@@ -1,4 +1,5 @@
 pub mod Completeness
 pub mod Judging
 pub mod RowNumbers
+pub mod Showing
 pub mod TransferFacts

@@ -2,20 +2,29 @@
 use Rattle.std.specs.Prelude.{ℕ, ◌≤◌, ◌&&◌, nat_le, if◌then◌else◌, List, [], ◌∷◌, Option, Some, None, bytes_eq, codes}
 use Rattle.row_reader.specs.Numbers.{word_number}
 use Rattle.bench_cmd.specs.declared.command.Command.{Command}
-use Rattle.bench_cmd.specs.declared.command.Command.TheVariants.{Judge}
+use Rattle.bench_cmd.specs.declared.command.Command.TheVariants.{Frames, Judge}
 
 -- the count of a command is one that `judge` takes
 abbrev pub IsFitting : Command → Type 0
 IsFitting (Judge count) = (1 ≤ count) × (count ≤ 32)
+IsFitting (Frames channels) = (1 ≤ channels) × (channels ≤ 12)
 
 -- `judge` with a count of sets from 1 to 32
 abbrev pub judge_of : Option ℕ → Option Command
 judge_of None = None
 judge_of (Some count) = if nat_le 1 count && nat_le count 32 then Some (Judge count) else None
 
+-- `frames` with a count of channels from 1 to 12
+abbrev pub frames_of : Option ℕ → Option Command
+frames_of None = None
+frames_of (Some channels) = if nat_le 1 channels && nat_le channels 12 then Some (Frames channels) else None
+
 -- the command of some words, where they have the shape of one
 abbrev pub command_of : List (List ℕ) → Option Command
 command_of [] = None
 command_of (name ∷ []) = None
-command_of (name ∷ word ∷ []) = if bytes_eq name (codes "judge") then judge_of (word_number word) else None
+command_of (name ∷ word ∷ []) =
+    if bytes_eq name (codes "judge") then judge_of (word_number word)
+    else if bytes_eq name (codes "frames") then frames_of (word_number word)
+    else None
 command_of (name ∷ word ∷ other ∷ rest) = None

@@ -2,6 +2,8 @@ pub mod Answers
 pub mod Commands
 pub mod Ends
 pub mod Faults
+pub mod FrameLines
+pub mod FramesText
 pub mod Judge
 pub mod Outcomes
 pub mod Statuses

@@ -1,7 +1,7 @@
 //! The shapes of the command line.
 
 ghost use Rattle.std.specs.Prelude.{◌≡◌, Some, IfSome, map};
-ghost use Rattle.bench_cmd.specs.Commands.{IsFitting, command_of, judge_of};
+ghost use Rattle.bench_cmd.specs.Commands.{IsFitting, command_of, frames_of, judge_of};
 
 use row_reader::word_number;
 
@@ -10,6 +10,8 @@ use row_reader::word_number;
 pub enum Command {
     /// Judge aligned sample sets. A trip needs `count` consecutive sets, 1 to 32, outside the restraint region.
     Judge { count: u8 },
+    /// Show the frames and messages in line bits, over so many channels, 1 to 12.
+    Frames { channels: u8 },
 }
 
 impl Command {
@@ -21,10 +23,13 @@ impl Command {
         let [name, word] = words else {
             return None;
         };
-        if name.as_slice() != b"judge".as_slice() {
-            return None;
+        if name.as_slice() == b"judge".as_slice() {
+            judge_of(word_number(word)?)
+        } else if name.as_slice() == b"frames".as_slice() {
+            frames_of(word_number(word)?)
+        } else {
+            None
         }
-        judge_of(word_number(word)?)
     }
 }
 
@@ -35,4 +40,15 @@ fn judge_of(count: u64) -> Option<Command>
         return None;
     }
     Some(Command::Judge { count: count as u8 })
+}
+
+fn frames_of(channels: u64) -> Option<Command>
+    ensures { result ≡ frames_of (Some channels) }
+{
+    if channels < 1 || 12 < channels {
+        return None;
+    }
+    Some(Command::Frames {
+        channels: channels as u8,
+    })
 }

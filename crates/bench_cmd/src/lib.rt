@@ -3,6 +3,8 @@
 
 mod command;
 mod ends;
+mod frame_lines;
+mod frames;
 mod input;
 mod judge;
 pub mod laws;

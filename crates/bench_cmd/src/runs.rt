@@ -10,6 +10,7 @@ ghost use Rattle.bench_cmd.specs.declared.command.Command.{Command};
 ghost use Rattle.ld_base.specs.Faults.{Rose};
 
 use crate::command::Command;
+use crate::frames::frames;
 use crate::input::{Unread, read_input};
 use crate::judge::judge;
 use crate::output::{Outcome, bad_line, write_text};
@@ -61,11 +62,13 @@ pub fn run<S: Source, K: Sink>(
 
 // What the command makes of the input.
 fn outcome_of(alloc: Global, command: Command, input: &[u8]) -> Result<Outcome, NoMemory>
-    requires { IsFitting command }
+    requires fits { IsFitting command }
+    requires small { length input.now ≤ largest_input }
     ensures { IfOk result (λ made. IsOutcome made (outcome command input.now)) }
 {
     match command {
         Command::Judge { count } => judge(alloc, count, input),
+        Command::Frames { channels } => Ok(Outcome::Text(frames(alloc, channels, input)?)),
     }
 }
 

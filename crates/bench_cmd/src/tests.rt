@@ -51,8 +51,8 @@ fn a_step_trips_at_its_second_set(rt: HostRuntime) -> Result<(), Fail> {
 }
 
 #[test]
-fn only_judge_and_a_count_is_a_command(rt: HostRuntime) -> Result<(), Fail> {
-    let shapes: [(&[&[u8]], Status); 13] = [
+fn judge_wants_a_count_and_no_more(rt: HostRuntime) -> Result<(), Fail> {
+    let shapes: [(&[&[u8]], Status); 14] = [
         (&[b"judge", b"1"], Status::Done),
         (&[b"judge", b"4"], Status::Done),
         (&[b"judge", b"32"], Status::Done),
@@ -65,7 +65,8 @@ fn only_judge_and_a_count_is_a_command(rt: HostRuntime) -> Result<(), Fail> {
         (&[b"judge", b""], Status::Usage),
         (&[b"judge", b"4", b"4"], Status::Usage),
         (&[b"Judge", b"4"], Status::Usage),
-        (&[b"frames", b"5"], Status::Usage),
+        (&[b"frame", b"5"], Status::Usage),
+        (&[b"frames"], Status::Usage),
     ];
     for (words, status) in shapes {
         let told = judged(rt.alloc(), words, b"", (&[], &[]), 0)?;

@@ -4,3 +4,4 @@ pub mod Register
 pub mod Step
 pub mod View
 pub mod Undamaged
+pub mod Between
