@@ -10,7 +10,7 @@ import tempfile
 ROOT = os.path.dirname(os.path.dirname(os.path.abspath(__file__)))
 LINEDIFF = os.path.join(ROOT, "linediff")
 # The one line that the program itself says of words that are no command.
-USAGE = b"usage: linediff judge COUNT\n"
+USAGE = b"usage: linediff judge COUNT | frames N\n"
 LARGEST = 16_777_216
 EXAMPLES = os.path.join(ROOT, "examples")
 
@@ -78,6 +78,8 @@ def ends(good, verdicts):
     yield "a closed standard error", run(["judge"], good, close=2), (b"", b"", 2)
     yield "the largest input", run(["judge", "2"], b"\n" * LARGEST), (b"", b"", 0)
     yield "a larger input", run(["judge", "2"], b"\n" * (LARGEST + 1)), (b"", b"input too large\n", 7)
+    yield "no line bits", run(["frames", "5"]), (b"end,0,hunting\n", b"", 0)
+    yield "more line bits than an input has", run(["frames", "5"], b"\n" * (LARGEST + 1)), (b"", b"input too large\n", 7)
     yield "little memory", run(["judge", "2"], b"\n" * LARGEST, memory=12_000_000), (b"", b"no memory\n", 6)
 
 
@@ -110,6 +112,8 @@ def examples():
     tripped = [at for at in told if told[at] == "T" and told.get(at - 1) != "T"]
     waiting = [at for at in told if told[at] == "W" and at > 23]
     yield "a gap", (tripped, waiting[0], 25 in told, said, status), ([23, 48], 26, False, b"", 0)
+    told = bytes_of("examples", "README.md").decode().split("```\n")[1].encode()
+    yield "a line", run(["frames", "5"], bytes_of("examples", "line.bits")), (told, b"", 0)
 
 
 def cases():
