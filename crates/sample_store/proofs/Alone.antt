@@ -59,3 +59,8 @@ pub IsAligned-Aligned : (spacing number : ℕ) (e : ℤ) → 0 < spacing → IsA
 IsAligned-Aligned spacing number e some =
     let near = floor-within (pos (spacing + 2 * number * spacing) -ℤ e) spacing some in
     record { above = omega (arith, ints); below = omega (arith, ints) }
+
+-- the same, from a quotient
+pub Aligned-read : (spacing number : ℕ) (e top bottom n : ℤ) → n ≡ int_div_euclid top bottom → top ≡ pos (spacing + 2 * number * spacing) -ℤ e
+    → bottom ≡ pos (2 * spacing) → n ≡ Aligned spacing number e
+Aligned-read spacing number e top bottom n is over by = rw (over, by) at is

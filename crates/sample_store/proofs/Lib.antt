@@ -5,3 +5,6 @@ pub mod JudgedSets
 pub mod Numbers
 pub mod Empty
 pub mod Owns
+pub mod Places
+pub mod Placings
+pub mod Sets

@@ -9,10 +9,10 @@ use Rattle.sample_store.specs.Stock.{held_at, Puts}
 use Rattle.sample_store.specs.declared.ring.Numbered.{Numbered}
 use Rattle.sample_store.specs.declared.ring.Ring.{Ring}
 
-test_same : (n : ℕ) → (n == n) ≡ true
+pub test_same : (n : ℕ) → (n == n) ≡ true
 test_same n = grind (arith, nat_tests)
 
-test_other : (m n : ℕ) → m ≢ n → (m == n) ≡ false
+pub test_other : (m n : ℕ) → m ≢ n → (m == n) ≡ false
 test_other m n differ = grind (arith, nat_tests)
 
 pub numbered-same : (xs : List Numbered) (n : ℕ) (values : Phases) → numbered n xs ≡ None

@@ -46,7 +46,7 @@ pub IsTook-since : (spacing next now n : ℕ) → IsTook spacing next now n → 
 IsTook-since spacing next now n took = rw took.is (div-mul-le_self now spacing)
 
 -- numbers in one place of a ring lie 64 apart
-apart : (k n : ℕ) → k ≢ n → k % 64 ≡ n % 64 → k < n → k + 64 ≤ n
+pub apart : (k n : ℕ) → k ≢ n → k % 64 ≡ n % 64 → k < n → k + 64 ≤ n
 apart k n differ place below = omega arith
 
 -- so a sample that would be driven out is too old
@@ -88,7 +88,7 @@ Taken-own : (spacing : ℕ) (offers : List Offer) (now : ℕ) (values : Phases)
     → Taken spacing (offers ++ Own now values ∷ []) ≡ Taken spacing offers ++ under (own_number spacing (Taken spacing offers) now) values
 Taken-own spacing offers now values = along-push (λ before taken offer. taken_by spacing taken offer) offers (Own now values)
 
-Given-offered : (f : Fields) (me : ℕ) (calls : List Call) (offer : Offer) → Given f me (calls ++ Offered offer ∷ []) ≡ Given f me calls
+pub Given-offered : (f : Fields) (me : ℕ) (calls : List Call) (offer : Offer) → Given f me (calls ++ Offered offer ∷ []) ≡ Given f me calls
 Given-offered f me calls offer = Given-push f me calls (Offered offer) ∙ append-nil (Given f me calls)
 
 pub StandsFor-took : (stock : Stock) (calls : List Call) (now n : ℕ) (values : Phases) (ring : Ring)

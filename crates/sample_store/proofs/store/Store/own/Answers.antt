@@ -18,14 +18,14 @@ returns-in-Took-clause-stands c = λ calls stands.
     let answer = rw (c.fields.ensures.same, c.get.ensures.count) at c.own_number-taken.ensures in
     let took = IsTook-answer stock.fields.spacing stock.own_next c.args.now n (sym answer ∙ c.in-Took.is) in
     let few = limit-accepted stock.fields (rw c.fields.ensures.same at c.fields.ensures.accepted) in
-    let puts = rw (c.from.ensures, c.get-in-Took.ensures.number) at c.put.ensures in
+    let puts = rw c.from.ensures at c.put.ensures in
     let later = rw (← c.self.view_is) at c.requires in
     let held = rw (← c.self.view_is) at stands in
-    let me = c.get-in-Took.ensures in
+    let me = c.self.invariant in
     let long : length stock.rings ≡ 3 = search rules in
-    let station : 1 ≤ stock.me = omega (arith, me.number, me.in_range) in
-    let inside : stock.me - 1 < length stock.rings = omega (arith, me.number, me.in_range, long) in
-    rw (c.get-self-inside.ensures.count, c.from-in-Took.ensures, c.from.ensures, c.get-in-Took.ensures.number)
+    let station : 1 ≤ stock.me = me.0 in
+    let inside : stock.me - 1 < length stock.rings = omega (arith, me.0, me.1, long) in
+    rw (c.get-self-inside.ensures.count, c.from-in-Took.ensures, c.from.ensures)
     (StandsFor-took stock calls c.args.now n c.args.v c.put.new.self few inside later took
     (IsTook-since stock.fields.spacing stock.own_next c.args.now n took) puts station held)
 
