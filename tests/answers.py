@@ -5,6 +5,7 @@ Needs cc, for the library that refuses one allocation after the other.
 import os
 import resource
 import subprocess
+import sys
 import tempfile
 
 ROOT = os.path.dirname(os.path.dirname(os.path.abspath(__file__)))
@@ -13,6 +14,8 @@ LINEDIFF = os.path.join(ROOT, "linediff")
 USAGE = b"usage: linediff judge COUNT | frames N\n"
 LARGEST = 16_777_216
 EXAMPLES = os.path.join(ROOT, "examples")
+sys.path.insert(0, EXAMPLES)
+import line
 
 
 def bytes_of(*path):
@@ -43,7 +46,7 @@ def words_that_are_no_command(program, good):
     yield "no words, to the program itself", run([], good, program=program), (b"", USAGE, 2)
     faulty = [["judge"], ["judge", "04"], ["judge", ""], ["judge", "0"], ["judge", "33"], ["judge", "+2"], ["judge", " 2"]]
     faulty += [["judge", "2", "2"], ["judge", "2", ""], ["", "judge", "2"], ["judge", "", "2"], ["JUDGE", "2"], ["Judge", "2"]]
-    faulty += [["judge", "--help"], ["help"], [""], ["frame", "5"], ["bench"], ["gen", "1", "1000"], [b"judge", b"\xff"]]
+    faulty += [["judge", "--help"], ["help"], [""], ["frame", "5"], ["frames"], ["frames", "0"], ["frames", "13"], ["frames", "05"], ["frames", "5", "5"], ["bench"], ["gen", "1", "1000"], [b"judge", b"\xff"]]
     for words in faulty:
         yield "the words %r" % words, run(words, good), (b"", USAGE, 2)
 
@@ -78,8 +81,6 @@ def ends(good, verdicts):
     yield "a closed standard error", run(["judge"], good, close=2), (b"", b"", 2)
     yield "the largest input", run(["judge", "2"], b"\n" * LARGEST), (b"", b"", 0)
     yield "a larger input", run(["judge", "2"], b"\n" * (LARGEST + 1)), (b"", b"input too large\n", 7)
-    yield "no line bits", run(["frames", "5"]), (b"end,0,hunting\n", b"", 0)
-    yield "more line bits than an input has", run(["frames", "5"], b"\n" * (LARGEST + 1)), (b"", b"input too large\n", 7)
     yield "little memory", run(["judge", "2"], b"\n" * LARGEST, memory=12_000_000), (b"", b"no memory\n", 6)
 
 
@@ -112,8 +113,32 @@ def examples():
     tripped = [at for at in told if told[at] == "T" and told.get(at - 1) != "T"]
     waiting = [at for at in told if told[at] == "W" and at > 23]
     yield "a gap", (tripped, waiting[0], 25 in told, said, status), ([23, 48], 26, False, b"", 0)
-    told = bytes_of("examples", "README.md").decode().split("```\n")[1].encode()
-    yield "a line", run(["frames", "5"], bytes_of("examples", "line.bits")), (told, b"", 0)
+    output, said, status = run(["frames", "5"], bytes_of("examples", "line.bin"))
+    told = [line for line in output.decode().splitlines() if not line.startswith("frame,")]
+    wanted = ["lock,280", "message,2824,1,2,1000,1000000,-,-,1000,-1000,0", "bad,3848,pair,82", "refused,6920,2"]
+    wanted += ["bad,7432,header", "bad,7688,header", "bad,7944,header", "lost,7944", "lock,8216"]
+    wanted += ["message,10760,1,2,1003,1003000,992000,997000,1003,-1003,0", "end,10760,locked"]
+    yield "a line of bits", (told, output.count(b"frame,"), said, status), (wanted, 36, b"", 0)
+    with tempfile.TemporaryDirectory() as folder:
+        made = os.path.join(folder, "line.bin")
+        subprocess.run([os.path.join(EXAMPLES, "line.py"), made], check=True)
+        yield "line.py makes line.bin", bytes_of(made), bytes_of("examples", "line.bin")
+
+
+def line_ends():
+    """Cases for `frames` at the ends of its input and output."""
+    yield "an empty line", run(["frames", "5"]), (b"end,0,hunting\n", b"", 0)
+    yield "zeros", run(["frames", "12"], b"\0" * 1000), (b"end,8000,hunting\n", b"", 0)
+    yield "the longest line", run(["frames", "5"], b"\0" * LARGEST), (b"end,134217728,hunting\n", b"", 0)
+    yield "a longer line", run(["frames", "5"], b"\0" * (LARGEST + 1)), (b"", b"input too large\n", 7)
+    # A message from 1 to 2, number 1, sent 1000, phases 1, -1 and 0, in three frames of twelve channels behind an idle one.
+    sent = bytes.fromhex("d5941200000000010000000003e8" + "00" * 12 + "0001ffff0000575efd63")
+    told = b"lock,272\nframe,512,0,d59412000000000100000000\nframe,768,0,03e800000000000000000000\nframe,1024,0,00000001ffff0000575efd63\n"
+    told += b"message,1024,1,2,1,1000,-,-,1,-1,0\nend,1024,locked\n"
+    payloads = [b"\xff" * 12, sent[:12], sent[12:24], sent[24:]]
+    yield "a message in three frames", run(["frames", "12"], b"".join(line.frame(line.WORDS[at % 2], 0, payload) for at, payload in enumerate(payloads))), (told, b"", 0)
+    with open("/dev/full", "wb") as full:
+        yield "a line and a full output", run(["frames", "5"], stdout=full), (b"", b"write fault\n", 5)
 
 
 def cases():
@@ -122,5 +147,6 @@ def cases():
     yield from words_that_are_no_command(program, good)
     yield from rows()
     yield from ends(good, verdicts)
+    yield from line_ends()
     yield from examples()
     yield from refused_allocations(program, good, verdicts)

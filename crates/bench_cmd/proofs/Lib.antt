@@ -1,4 +1,5 @@
 pub mod Completeness
+pub mod Cuts
 pub mod Judging
 pub mod RowNumbers
 pub mod Showing

@@ -4,6 +4,7 @@ pub mod Ends
 pub mod Faults
 pub mod FrameLines
 pub mod FramesText
+pub mod Gains
 pub mod Judge
 pub mod Outcomes
 pub mod Statuses

@@ -1,41 +1,50 @@
-//! The command `frames`: the frames in line bits.
+//! The command `frames`: the frames and messages in line bits.
 
-ghost use Rattle.std.specs.Prelude.{◌≡◌, ◌+◌, ◌*◌, ◌<◌, ◌≤◌, length, map, IfOk};
-ghost use Rattle.std.specs.List.{range_with_len};
-ghost use Rattle.ld_base.specs.Bits.{line_bit};
+ghost use Rattle.std.specs.Prelude.{◌≡◌, ◌+◌, ◌<◌, ◌≤◌, length, IfOk};
+ghost use Rattle.std.specs.Option.{ForSome};
 ghost use Rattle.bench_cmd.specs.FramesText.{frames_text};
 ghost use Rattle.bench_cmd.specs.Transfers.{largest_input};
 
-use crate::frame_lines::{write_end, write_told};
+use crate::cutting::chunk_at;
+use crate::frame_lines::write_end;
+use crate::gains::{begin_of, write_gained};
 use bit_sync::Receiver;
-use bit_sync::laws::few_bits_more;
-use ld_base::{Chunk, NoMemory, Words};
+use bit_sync::laws::gains_of_a_chunk;
+use ld_base::{NoMemory, Words};
+use payload_map::Inlet;
+use relay_message::Hunter;
 use std::alloc::Global;
 
 /// How many frames in a row without their header word end a lock.
 const MISSES: u8 = 3;
 
-/// The bits of a byte.
-const BYTE_BITS: u16 = 8;
+/// The bits of a frame.
+const FRAME_BITS: u64 = 256;
 
-/// The frames in an input's bits as text.
+/// The frames and messages in an input's bits as text. The bits are fed a frame's length at a time, and while there is a
+/// lock up to the end of each frame: what is told doesn't depend on where they are cut.
 pub(crate) fn frames(alloc: Global, channels: u8, input: &[u8]) -> Result<Vec<u8>, NoMemory>
     requires channels { (1 ≤ channels) × (channels ≤ 12) }
     requires small { length input.now ≤ largest_input }
     ensures { IfOk result (λ text. text.items ≡ frames_text channels input.now) }
 {
-    few_bits_more();
+    gains_of_a_chunk();
+    let bits = 8 * input.len() as u64;
     let mut receiver = Receiver::new(channels, usual_words(), MISSES);
+    let mut inlet = Inlet::new(channels);
+    let mut hunter = Hunter::new();
     let mut text = Vec::new(alloc);
-    let mut locked = false;
-    let mut end = 0u64;
-    for place in 0..input.len() {
-        let fed = receiver.feed(&byte_at(input, place));
-        end += u64::from(BYTE_BITS);
-        write_told(&mut text, channels, end, locked, &fed)?;
-        locked = fed.locked;
+    let mut begin = None;
+    let mut at = 0;
+    'feeding: while at < bits {
+        let count = next_count(begin, at, bits);
+        let fed = receiver.feed(&chunk_at(input, at, count));
+        at += u64::from(count);
+        let next = begin_of(&receiver, at);
+        write_gained(&mut text, &mut inlet, &mut hunter, begin, next, fed.frame)?;
+        begin = next;
     }
-    write_end(&mut text, end, locked)?;
+    write_end(&mut text, bits, begin.is_some())?;
     Ok(text)
 }
 
@@ -49,17 +58,17 @@ fn usual_words() -> Words
     }
 }
 
-// The bits of a byte of the input.
-fn byte_at(input: &[u8], place: usize) -> Chunk
-    requires { place < length input.now }
-    ensures { result ≡ map (line_bit input.now) (range_with_len (8 * place) 8) }
+// How many bits to feed next: up to the end of the present frame, or of the input.
+fn next_count(begin: Option<u64>, at: u64, bits: u64) -> u16
+    requires { at < bits }
+    ensures some { (1 ≤ result) × (result ≤ 256) }
+    ensures within { at + result ≤ bits }
 {
-    let mut bytes = [0; 32];
-    bytes[0] = input[place];
-    match Chunk::new(BYTE_BITS, bytes) {
-        Some(chunk) => chunk,
-        None => unreachable!(),
-    }
+    let held = match begin {
+        Some(begin) => at.saturating_sub(begin) % FRAME_BITS,
+        None => 0,
+    };
+    (bits - at).min(FRAME_BITS - held) as u16
 }
 
 #[cfg(test)]

@@ -2,9 +2,11 @@
 #![tactic(auto)]
 
 mod command;
+mod cutting;
 mod ends;
 mod frame_lines;
 mod frames;
+mod gains;
 mod input;
 mod judge;
 pub mod laws;
