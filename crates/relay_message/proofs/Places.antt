@@ -1,9 +1,8 @@
 -- What the places of a line tell, over any layout.
 use Rattle.std.proofs.Common.{◌≡◌, ℕ, ◌-◌, ◌<◌, ◌≤◌, zero, suc, List, [], ◌∷◌, ◌++◌, length, take, drop, Option, Some, None, Result, Ok, Err, ◌⊎◌, inl, inr, ⊎_elim, arith, refl, sym, ap, ◌∙◌, append_assoc}
 use Rattle.std.specs.Option.{option_and_then, option_map, option_to_list}
-use Rattle.std.proofs.Math.Seq.{drop-append_seam}
 use Rattle.std.proofs.lemmas.List.{map-append, length-map, length-take-le, take-append-drop}
-use Rattle.relay_message.specs.Messages.{Layout, cells, front, told_at, covered, told_behind, told, added}
+use Rattle.relay_message.specs.Messages.{Layout, cells, front, told_at, covered, told_behind, told}
 
 -- the cells of two stretches
 pub cells-append : (xs ys : List ℕ) → cells (xs ++ ys) ≡ cells xs ++ cells ys

@@ -4,8 +4,8 @@ ghost use Rattle.ld_base.specs.Piece.{bytes_of};
 ghost use Rattle.relay_message.specs.Hunter.{StandsFor};
 ghost use Rattle.relay_message.specs.Messages.{added, cells, messages, piece_cells, refusals, told};
 
+use crate::window::Window;
 use crate::{Format, MessageFault, Whole};
-use arrayvec::ArrayVec;
 use ld_base::{Message, Piece};
 use std::marker::{Model, PhantomData};
 
@@ -23,7 +23,7 @@ pub type Hunted = HuntedBy<Message>;
 /// leftmost stretches that are messages, none overlapping. It keeps less than a message between two pieces.
 #[derive(Drop)]
 pub struct HunterOf<L: Format> {
-    kept: ArrayVec<u8, 48>,
+    kept: Window,
     format: PhantomData<L>,
 }
 
@@ -35,9 +35,9 @@ impl<L: Format> Model for HunterOf<L> {
 
     ghost Value = { List ℕ };
 
-    ghost view = { λ h. h.kept.items };
+    ghost view = { λ h. h.kept };
 
-    ghost invariant = { λ h. length h.kept.items < L.SIZE };
+    ghost invariant = { λ h. length h.kept < L.SIZE };
 }
 
 impl<L: Format> HunterOf<L> {
@@ -46,7 +46,7 @@ impl<L: Format> HunterOf<L> {
         ensures { StandsFor L.layout result [] }
     {
         HunterOf {
-            kept: ArrayVec::new(),
+            kept: Window::new(),
             format: PhantomData,
         }
     }
@@ -66,9 +66,9 @@ impl<L: Format> HunterOf<L> {
                 if self.kept.is_empty() && is_idle::<L>(bytes) {
                     return nothing();
                 }
-                append(&mut self.kept, bytes);
-                let (hunted, place) = hunt::<L>(&self.kept);
-                drop_first(&mut self.kept, place);
+                self.kept.push(bytes);
+                let (hunted, place) = hunt::<L>(self.kept.bytes());
+                self.kept.drop_first(place);
                 hunted
             }
             Piece::Gap => {
@@ -98,22 +98,6 @@ fn is_idle<L: Format>(bytes: &[u8]) -> bool
         }
     }
     true
-}
-
-// Puts some bytes behind those that are kept.
-fn append(kept: &mut ArrayVec<u8, 48>, bytes: &[u8])
-    requires { length kept.old.items + length bytes.now ≤ 48 }
-    ensures { kept.new.items ≡ kept.old.items ++ bytes.now }
-{
-    let _ = kept.try_extend_from_slice(bytes);
-}
-
-// Forgets the first bytes of those that are kept.
-fn drop_first(kept: &mut ArrayVec<u8, 48>, count: usize)
-    requires { count ≤ length kept.old.items }
-    ensures { kept.new.items ≡ drop count kept.old.items }
-{
-    kept.drain(..count);
 }
 
 // Hunts some bytes, of which there is less than two messages. Also tells the first place that has not told anything yet.

@@ -8,6 +8,7 @@ mod format;
 mod hunter;
 pub mod laws;
 mod whole;
+mod window;
 
 pub use decoding::decode;
 pub use encoding::encode;
