@@ -1,21 +1,17 @@
 //! The lines of `frames`.
 
-ghost use Rattle.std.specs.Prelude.{◌≡◌, ◌≤◌, ◌++◌, ℕ, length, codes, decimal, OnOk};
+ghost use Rattle.std.specs.Prelude.{◌≡◌, ◌≤◌, ◌+◌, ◌++◌, ℕ, Some, length, decimal, OnOk};
 ghost use Rattle.std.specs.List.{flat_map};
 ghost use Rattle.std.specs.Option.{option_to_list};
-ghost use Rattle.hex.specs.Hex.{encode_lower};
 ghost use Rattle.ld_base.specs.Piece.{bytes_of};
 ghost use Rattle.payload_map.specs.Pieces.{piece_of};
 ghost use Rattle.bench_cmd.specs.FrameLines.{echo_words, end_line, fault_number, fault_words, frame_line, heading_words, hex_words, lock_line, lost_line, message_line, phases_words, refused_line, whole_bytes};
 
+use crate::line::Line;
 use bit_sync::Got;
 use c3794_frame::FrameFault;
-use itoa::Buffer;
 use ld_base::{Echo, Message, NoMemory, Phases, Piece};
 use relay_message::{Hunted, MessageFault};
-
-/// The most bytes of payload of a frame.
-const PAYLOAD: usize = 12;
 
 /// Appends the line of a lock that was made with so many bits.
 pub(crate) fn write_lock(text: &mut Vec<u8>, at: u64) -> Result<(), NoMemory>
@@ -62,56 +58,54 @@ pub(crate) fn write_got(
     ensures { OnOk result ((channels : ℕ) → bytes_of piece.now ≡ piece_of channels got.now
         → text.new.items ≡ text.old.items ++ frame_line channels end got.now) }
 {
+    let mut line = Line::new();
+    line.put(b"\n");
     match got {
         Got::Good(frame) => {
-            if frame.yellow() {
-                write_counted(text, b"frame,", end, b",1,")?;
-            } else {
-                write_counted(text, b"frame,", end, b",0,")?;
-            }
-            write_payload(text, piece)?;
+            put_payload(&mut line, piece);
+            line.put(if frame.yellow() { b",1," } else { b",0," });
+            line.put_number(end);
+            line.put(b"frame,");
         }
         Got::Bad(fault) => {
-            write_counted(text, b"bad,", end, b",")?;
-            write_fault(text, fault)?;
+            put_fault(&mut line, fault);
+            line.put(b",");
+            line.put_number(end);
+            line.put(b"bad,");
         }
     }
-    text.extend_from_slice(b"\n")?;
-    Ok(())
+    line.append_to(text)
 }
 
-// Appends a piece of payload in lower-case hexadecimal.
-fn write_payload(text: &mut Vec<u8>, piece: &Piece) -> Result<(), NoMemory>
-    ensures { OnOk result (text.new.items ≡ text.old.items ++ hex_words (bytes_of piece.now)) }
+// Puts a piece of payload in lower-case hexadecimal in front.
+fn put_payload(line: &mut Line, piece: &Piece)
+    requires { length line.old ≤ 120 }
+    ensures payload { line.new ≡ hex_words (bytes_of piece.now) ++ line.old }
+    ensures few { length line.new ≤ length line.old + 24 }
 {
     match piece {
-        Piece::Bytes(bytes) => write_hex(text, bytes),
-        Piece::Gap => Ok(()),
+        Piece::Bytes(bytes) => line.put_hex(bytes),
+        Piece::Gap => {}
     }
 }
 
-// Appends up to twelve bytes in lower-case hexadecimal.
-fn write_hex(text: &mut Vec<u8>, bytes: &[u8]) -> Result<(), NoMemory>
-    requires { length bytes.now ≤ 12 }
-    ensures { OnOk result (text.new.items ≡ text.old.items ++ encode_lower bytes.now) }
-{
-    let mut digits = [0; 2 * PAYLOAD];
-    let digits = &mut digits[..2 * bytes.len()];
-    let _ = hex::encode_to_slice(bytes, digits);
-    text.extend_from_slice(digits)?;
-    Ok(())
-}
-
-// Appends the words for a fault of a frame.
-fn write_fault(text: &mut Vec<u8>, fault: &FrameFault) -> Result<(), NoMemory>
-    ensures { OnOk result (text.new.items ≡ text.old.items ++ fault_words fault.now) }
+// Puts the words for a fault of a frame in front.
+fn put_fault(line: &mut Line, fault: &FrameFault)
+    requires { length line.old ≤ 120 }
+    ensures fault { line.new ≡ fault_words fault.now ++ line.old }
+    ensures few { length line.new ≤ length line.old + 26 }
 {
     match fault {
-        FrameFault::Header => text.extend_from_slice(b"header")?,
-        FrameFault::Pair(at) => write_counted(text, b"pair,", u64::from(*at), b"")?,
-        FrameFault::Count(count) => write_counted(text, b"count,", u64::from(*count), b"")?,
+        FrameFault::Header => line.put(b"header"),
+        FrameFault::Pair(at) => {
+            line.put_number(u64::from(*at));
+            line.put(b"pair,");
+        }
+        FrameFault::Count(count) => {
+            line.put_number(u64::from(*count));
+            line.put(b"count,");
+        }
     }
-    Ok(())
 }
 
 /// Appends the lines of what a piece told of messages.
@@ -122,8 +116,7 @@ pub(crate) fn write_hunted(text: &mut Vec<u8>, end: u64, hunted: &Hunted) -> Res
         write_message(text, end, message)?;
     }
     if let Some(fault) = hunted.refused {
-        write_counted(text, b"refused,", end, b",")?;
-        write_counted(text, b"", fault_number(fault), b"\n")?;
+        write_refused(text, end, fault)?;
     }
     Ok(())
 }
@@ -132,64 +125,80 @@ pub(crate) fn write_hunted(text: &mut Vec<u8>, end: u64, hunted: &Hunted) -> Res
 fn write_message(text: &mut Vec<u8>, end: u64, message: &Message) -> Result<(), NoMemory>
     ensures { OnOk result (text.new.items ≡ text.old.items ++ message_line end message.now) }
 {
-    write_counted(text, b"message,", end, b",")?;
-    write_heading(
-        text,
+    let mut line = Line::new();
+    line.put(b"\n");
+    put_phases(&mut line, message.phases);
+    put_echo(&mut line, message.echo);
+    put_heading(
+        &mut line,
         message.from.get(),
         message.to.get(),
         message.number,
         message.sent,
-    )?;
-    write_echo(text, message.echo)?;
-    write_phases(text, message.phases)?;
-    text.extend_from_slice(b"\n")?;
-    Ok(())
+    );
+    line.put(b",");
+    line.put_number(end);
+    line.put(b"message,");
+    line.append_to(text)
 }
 
-// Appends the stations of a message, the number of its sample, and its send stamp.
-fn write_heading(
-    text: &mut Vec<u8>,
-    from: u8,
-    to: u8,
-    number: u32,
-    sent: u64,
-) -> Result<(), NoMemory>
-    ensures { OnOk result (text.new.items ≡ text.old.items ++ heading_words from to number sent) }
+// Puts the stations of a message, the number of its sample, and its send stamp in front.
+fn put_heading(line: &mut Line, from: u8, to: u8, number: u32, sent: u64)
+    requires { length line.old ≤ 120 }
+    ensures heading { line.new ≡ heading_words from to number sent ++ line.old }
+    ensures few { length line.new ≤ length line.old + 83 }
 {
-    write_counted(text, b"", u64::from(from), b",")?;
-    write_counted(text, b"", u64::from(to), b",")?;
-    write_counted(text, b"", u64::from(number), b",")?;
-    write_counted(text, b"", sent, b"")?;
-    Ok(())
+    line.put_number(sent);
+    line.put(b",");
+    line.put_number(u64::from(number));
+    line.put(b",");
+    line.put_number(u64::from(to));
+    line.put(b",");
+    line.put_number(u64::from(from));
 }
 
-// Appends the stamps of an echo between commas.
-fn write_echo(text: &mut Vec<u8>, echo: Option<Echo>) -> Result<(), NoMemory>
-    ensures { OnOk result (text.new.items ≡ text.old.items ++ echo_words echo) }
+// Puts the stamps of an echo in front, between commas.
+fn put_echo(line: &mut Line, echo: Option<Echo>)
+    requires { length line.old ≤ 120 }
+    ensures echo { line.new ≡ echo_words echo ++ line.old }
+    ensures few { length line.new ≤ length line.old + 43 }
 {
     match echo {
-        None => {
-            text.extend_from_slice(b",-,-,")?;
-            Ok(())
-        }
+        None => line.put(b",-,-,"),
         Some(echo) => {
-            write_counted(text, b",", echo.sent, b",")?;
-            write_counted(text, b"", echo.came, b",")
+            line.put(b",");
+            line.put_number(echo.came);
+            line.put(b",");
+            line.put_number(echo.sent);
+            line.put(b",");
         }
     }
 }
 
-// Appends the values of a sample.
-fn write_phases(text: &mut Vec<u8>, phases: Phases) -> Result<(), NoMemory>
-    ensures { OnOk result (text.new.items ≡ text.old.items ++ phases_words phases) }
+// Puts the values of a sample in front.
+fn put_phases(line: &mut Line, phases: Phases)
+    requires { length line.old ≤ 120 }
+    ensures phases { line.new ≡ phases_words phases ++ line.old }
+    ensures few { length line.new ≤ length line.old + 65 }
 {
-    let mut buffer = Buffer::new();
-    text.extend_from_slice(buffer.format(phases.a).as_bytes())?;
-    text.extend_from_slice(b",")?;
-    text.extend_from_slice(buffer.format(phases.b).as_bytes())?;
-    text.extend_from_slice(b",")?;
-    text.extend_from_slice(buffer.format(phases.c).as_bytes())?;
-    Ok(())
+    line.put_signed(phases.c);
+    line.put(b",");
+    line.put_signed(phases.b);
+    line.put(b",");
+    line.put_signed(phases.a);
+}
+
+// Appends the line of a place at which a message was refused.
+fn write_refused(text: &mut Vec<u8>, end: u64, fault: MessageFault) -> Result<(), NoMemory>
+    ensures { OnOk result (text.new.items ≡ text.old.items ++ refused_line end (Some fault)) }
+{
+    let mut line = Line::new();
+    line.put(b"\n");
+    line.put_number(fault_number(fault));
+    line.put(b",");
+    line.put_number(end);
+    line.put(b"refused,");
+    line.append_to(text)
 }
 
 fn fault_number(fault: MessageFault) -> u64
@@ -204,12 +213,14 @@ fn fault_number(fault: MessageFault) -> u64
     }
 }
 
-// Appends a number between some words.
+// Appends the line of a number between some words.
 fn write_counted(text: &mut Vec<u8>, name: &[u8], count: u64, behind: &[u8]) -> Result<(), NoMemory>
+    requires { (length name.now ≤ 20) × (length behind.now ≤ 20) }
     ensures { OnOk result (text.new.items ≡ text.old.items ++ name.now ++ decimal count ++ behind.now) }
 {
-    text.extend_from_slice(name)?;
-    text.extend_from_slice(Buffer::new().format(count).as_bytes())?;
-    text.extend_from_slice(behind)?;
-    Ok(())
+    let mut line = Line::new();
+    line.put(behind);
+    line.put_number(count);
+    line.put(name);
+    line.append_to(text)
 }

@@ -10,6 +10,7 @@ mod gains;
 mod input;
 mod judge;
 pub mod laws;
+mod line;
 mod output;
 mod runs;
 mod status;

@@ -1,0 +1,20 @@
+use Rattle.std.proofs.Common.{rules, append_assoc, w16, FitsSigned}
+use Rattle.std.proofs.lemmas.Int.{to_z-of_z}
+use Rattle.bench_cmd.proofs.frame_lines.put_phases.Goals as goal
+
+pub returns-clause-phases : goal.returns-clause-phases
+returns-clause-phases c =
+    let phases = c.args.phases in
+    let fits_a : FitsSigned w16 phases.a = search rules in
+    let fits_b : FitsSigned w16 phases.b = search rules in
+    let fits_c : FitsSigned w16 phases.c = search rules in
+    rw (
+      c.put_signed-3.ensures.number,
+      c.put-2.ensures,
+      c.put_signed-2.ensures.number,
+      c.put.ensures,
+      c.put_signed.ensures.number,
+      to_z-of_z w16 phases.a fits_a,
+      to_z-of_z w16 phases.b fits_b,
+      to_z-of_z w16 phases.c fits_c,
+    ) (simp append_assoc)
