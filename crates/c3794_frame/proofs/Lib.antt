@@ -8,3 +8,4 @@ pub mod Sent
 pub mod Steps
 pub mod Streams
 pub mod Tables
+pub mod Words

@@ -8,7 +8,7 @@ use Rattle.std.proofs.lemmas.List.FromFn.{length-map-range_with_len, get_or-map-
 use Rattle.std.proofs.lemmas.Nat.Bits.{bit_at_cat_high, bit_at_cat_low}
 use Rattle.ld_base.specs.Bits.{byte_bit}
 use Rattle.c3794_frame.specs.FrameOf.{count_of, data_bit, header_of}
-use Rattle.c3794_frame.specs.Nibble.{AreNibbles, IsLineByte}
+use Rattle.c3794_frame.specs.Nibble.{IsLineByte}
 use Rattle.c3794_frame.specs.Numbers.{bits_of, number, number_bits}
 use Rattle.c3794_frame.specs.Reading.{data_byte}
 use Rattle.c3794_frame.proofs.Numbers.{bits_of_at, get_or-number_bits, length-bits_of, length-number_bits, number-number_bits}
@@ -84,11 +84,6 @@ count_is bytes n long line =
     four_bits n _ _ _ _ line.small (data_bit_of bytes 0 2 0 n long refl (lit< tt) (lit< tt) line) (data_bit_of bytes 1 2 1 n long refl (lit< tt) (lit< tt) line)
     (data_bit_of bytes 2 2 2 n long refl (lit< tt) (lit< tt) line) (data_bit_of bytes 3 2 3 n long refl (lit< tt) (lit< tt) line)
 
--- a data bit by the nibbles
-pub nibble_bit : (bytes nibbles : List ℕ) (k q j : ℕ) → length bytes ≡ 32 → AreNibbles bytes nibbles → k ≡ 4 * q + j → j < 4
-    → k < 120 → data_bit (bits_of bytes) k ≡ bit_at (get_or nibbles q 0) (3 - j)
-nibble_bit bytes nibbles k q j long lines e within few = data_bit_of bytes k (2 + q) j _ long (omega arith) within few (lines.each q (omega arith))
-
 -- a bit of a byte by its first nibble
 pub first_bit : (high low i : ℕ) → low < 16 → i < 4 → bit_at high (3 - i) ≡ bit_at (high * 16 + low) (8 - 1 - i)
 first_bit high low i small below =
@@ -101,20 +96,18 @@ second_bit high low i from below =
     let e : 8 - 1 - i ≡ 3 - (i - 4) = omega arith in
     ap (bit_at low) (sym e) ∙ sym (bit_at_cat_low high 4 low (8 - 1 - i) (omega arith))
 
--- a byte of payload by its two nibbles
-pub data_byte_is : (bytes nibbles : List ℕ) (q : ℕ) → length bytes ≡ 32 → AreNibbles bytes nibbles → q < 12
-    → data_byte (bits_of bytes) (24 + 8 * q) ≡ get_or nibbles (6 + 2 * q) 0 * 16 + get_or nibbles (7 + 2 * q) 0
-data_byte_is bytes nibbles q long lines within =
-    let high : ℕ = get_or nibbles (6 + 2 * q) 0 in
-    let low : ℕ = get_or nibbles (7 + 2 * q) 0 in
-    let high_small : high < 16 = (lines.each (6 + 2 * q) (omega arith)).small in
-    let low_small : low < 16 = (lines.each (7 + 2 * q) (omega arith)).small in
+-- a byte of payload by its two line bytes
+pub data_byte_is : (bytes : List ℕ) (q high low : ℕ) → length bytes ≡ 32 → q < 12 → IsLineByte (get_or bytes (8 + 2 * q) 0) high
+    → IsLineByte (get_or bytes (9 + 2 * q) 0) low → data_byte (bits_of bytes) (24 + 8 * q) ≡ high * 16 + low
+data_byte_is bytes q high low long within first second =
+    let high_small : high < 16 = first.small in
+    let low_small : low < 16 = second.small in
     let eight : List ℕ = map (data_bit (bits_of bytes)) (range_with_len (24 + 8 * q) 8) in
     let same : (i : ℕ) → i < 8 → get_or eight i 0 ≡ bit_at (high * 16 + low) (8 - 1 - i) =
     λ i below. get_or-map-range_with_len (data_bit (bits_of bytes)) (24 + 8 * q) 8 i (24 + 8 * q + i) 0 below refl
     ∙ elim (cases_lt i 4) [
-      | inl near ↦ nibble_bit bytes nibbles (24 + 8 * q + i) (6 + 2 * q) i long lines (omega arith) near (omega arith) ∙ first_bit high low i low_small near
-      | inr far ↦ nibble_bit bytes nibbles (24 + 8 * q + i) (7 + 2 * q) (i - 4) long lines (omega arith) (omega arith) (omega arith) ∙ second_bit high low i far below
+      | inl near ↦ data_bit_of bytes (24 + 8 * q + i) (8 + 2 * q) i high long (omega arith) near (omega arith) first ∙ first_bit high low i low_small near
+      | inr far ↦ data_bit_of bytes (24 + 8 * q + i) (9 + 2 * q) (i - 4) low long (omega arith) (omega arith) (omega arith) second ∙ second_bit high low i far below
     ] in
     let small : (high * 16 + low) % 2 ^ 8 ≡ high * 16 + low = omega arith in
     number_of eight 8 (high * 16 + low) (length-map-range_with_len (data_bit (bits_of bytes)) (24 + 8 * q) 8) same ∙ small

@@ -1,12 +1,13 @@
-ghost use Rattle.std.specs.Prelude.{◌≡◌, ◌≤◌, ◌<◌, ℕ, Some, Ok, IfOk, MatchResult, length, option_map, slice_index};
+ghost use Rattle.std.specs.Prelude.{◌≡◌, ◌≤◌, None, Ok, IfOk, length};
 ghost use Rattle.c3794_frame.specs.Numbers.{bits_of};
 ghost use Rattle.ld_base.specs.Words.{AreWords};
 ghost use Rattle.c3794_frame.specs.Frame.{IsFrame};
 ghost use Rattle.c3794_frame.specs.FrameOf.{FrameOf, Layout};
-ghost use Rattle.c3794_frame.specs.Nibble.{AreNibbles, ArePayload};
+ghost use Rattle.c3794_frame.specs.Nibble.{ArePayload};
 ghost use Rattle.c3794_frame.specs.Reading.{broken_pair, read_frame};
 
 use crate::Frame;
+use crate::complements::broken_pair;
 use crate::header::word_of;
 use crate::nibbles::nibble;
 use ld_base::Words;
@@ -43,38 +44,26 @@ fn read(bits: &[u8; 32], channels: u8, words: &Words) -> Result<Frame, FrameFaul
     let Some(odd) = word_of(u16::from_be_bytes([bits[0], bits[1]]), words) else {
         return Err(FrameFault::Header);
     };
-    let nibbles = nibbles_of(bits)?;
-    if nibbles[0] != channels {
-        return Err(FrameFault::Count(nibbles[0]));
+    if let Some(at) = broken_pair(bits) {
+        return Err(FrameFault::Pair(at));
     }
-    let payload = payload_of(&nibbles);
-    Ok(Frame::new(odd, nibbles[1] & 8 != 0, &payload[..channels as usize]))
+    let count = nibble(bits[2]);
+    if count != channels {
+        return Err(FrameFault::Count(count));
+    }
+    let yellow = nibble(bits[3]) & 8 != 0;
+    let payload = payload_of(bits, channels);
+    Ok(Frame::new(odd, yellow, &payload[..channels as usize]))
 }
 
-// The nibbles of the thirty line bytes behind the header, or the first broken pair.
-fn nibbles_of(bits: &[u8; 32]) -> Result<[u8; 30], FrameFault>
-    ensures { MatchResult result
-        (λ nibbles. AreNibbles bits.now nibbles)
-        (λ fault. option_map (λ i. FrameFault.Pair i) (broken_pair (bits_of bits.now)) ≡ Some fault) }
-{
-    let mut nibbles = [0; 30];
-    for k in 0..nibbles.len() {
-        nibbles[k] = match nibble(bits[2 + k]) {
-            Ok(nibble) => nibble,
-            Err(at) => return Err(FrameFault::Pair(16 + 8 * k as u8 + at)),
-        };
-    }
-    Ok(nibbles)
-}
-
-// The bytes of payload of those nibbles.
-fn payload_of(nibbles: &[u8; 30]) -> [u8; 12]
-    requires { (k : ℕ) → k < 30 → slice_index nibbles.now k < 16 }
-    ensures { ArePayload nibbles.now result }
+// The bytes of payload of so many channels, and zeros behind them. They say nothing where a pair is broken.
+fn payload_of(bits: &[u8; 32], channels: u8) -> [u8; 12]
+    requires { channels ≤ 12 }
+    ensures { broken_pair (bits_of bits.now) ≡ None → ArePayload channels (bits_of bits.now) result }
 {
     let mut payload = [0; 12];
-    for k in 0..payload.len() {
-        payload[k] = nibbles[6 + 2 * k] << 4 | nibbles[7 + 2 * k];
+    for k in 0..channels as usize {
+        payload[k] = nibble(bits[8 + 2 * k]) << 4 | nibble(bits[9 + 2 * k]);
     }
     payload
 }

@@ -1,6 +1,7 @@
 //! The frame of a C37.94 line: 256 bits, each data bit followed by its complement.
 #![tactic(auto)]
 
+mod complements;
 mod decoding;
 mod encoding;
 mod frame;
