@@ -4,7 +4,6 @@ pub mod Gains
 pub mod Holds
 pub mod Hunts
 pub mod Locks
-pub mod Meanwhile
 pub mod Registers
 pub mod Shapes
 pub mod Undamaged

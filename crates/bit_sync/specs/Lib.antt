@@ -4,4 +4,3 @@ pub mod Register
 pub mod Step
 pub mod View
 pub mod Undamaged
-pub mod Between

@@ -3,7 +3,6 @@
 ghost use Rattle.std.specs.Prelude.{◌≡◌, ◌≤◌, ◌-◌, ◌*◌, ◌/◌, ◌+◌, ◌++◌, ◌<◌, Bool, true, List, ℕ, Option, drop, length, map, take};
 ghost use Rattle.ld_base.specs.Words.{AreWords};
 ghost use Rattle.c3794_frame.specs.FrameOf.{Layout};
-ghost use Rattle.bit_sync.specs.Between.{Happened, few_from};
 ghost use Rattle.bit_sync.specs.Frames.{Event, Rules, frames, gained, gots, is_locked, listed, position};
 ghost use Rattle.bit_sync.specs.Undamaged.{AreSent, sent_bits};
 ghost use Rattle.bit_sync.specs.declared.told.Got.{Got};
@@ -33,12 +32,4 @@ pub fn gains_of_a_chunk()
 pub fn places_on_a_line()
     ensures { (r : Rules) (line : List ℕ) → (position (frames r line).place ≤ length line)
         × (is_locked (frames r line).place ≡ true → length line < position (frames r line).place + 256) }
-{}
-
-/// While a few bits more come, one lock is made or one frame ends, or neither: the places before and after them and the
-/// frame that ended tell what happened.
-pub fn few_bits_more()
-    ensures { (r : Rules) (line more : List ℕ) (frame : Option Got) → length more ≤ few_from (frames r line).place
-        → gots (frames r (line ++ more)).events ≡ gots (frames r line).events ++ listed frame
-        → Happened r line more frame }
 {}
