@@ -142,6 +142,64 @@ fn a_line_that_is_cut_off_is_told_to_its_end(rt: HostRuntime) -> Result<(), Fail
     Ok(())
 }
 
+// Twelve channels carry a message of 36 bytes in three frames, behind an idle one.
+fn carrying(alloc: Global, message: &[u8; 36]) -> Result<Vec<u8>, Fail> {
+    let frames = [
+        framed(false, false, &[0xFF; 12])?,
+        framed(true, false, &message[..12])?,
+        framed(false, false, &message[12..24])?,
+        framed(true, false, &message[24..])?,
+    ];
+    Ok(Vec::from_slice(alloc, frames.as_flattened())?)
+}
+
+#[test]
+fn a_message_in_frames_is_told(rt: HostRuntime) -> Result<(), Fail> {
+    let message =
+        *b"\xD5\x94\x12\x00\0\0\0\x01\0\0\0\0\x03\xE8\0\0\0\0\0\0\0\0\0\0\0\0\0\x01\xFF\xFF\0\0\x57\x5E\xFD\x63";
+    let told = shown(rt.alloc(), b"12", &carrying(rt.alloc(), &message)?)?;
+    assert_eq!(rt; told.0, Status::Done);
+    assert_eq!(rt;
+        told.1.as_slice(),
+        b"lock,272\nframe,512,0,d59412000000000100000000\nframe,768,0,03e800000000000000000000\n\
+frame,1024,0,00000001ffff0000575efd63\nmessage,1024,1,2,1,1000,-,-,1,-1,0\nend,1024,locked\n"
+            .as_slice()
+    );
+    Ok(())
+}
+
+// The checks are those of CRC-32/BZIP2.
+#[test]
+fn messages_and_refusals_have_their_lines(rt: HostRuntime) -> Result<(), Fail> {
+    let rows: [(&[u8; 36], &[u8]); 5] = [
+        (
+            b"\xD5\x94\x32\x01\xFF\xFF\xFF\xFF\xFF\xFF\xFF\xFF\xFF\xFF\xFF\xFF\xFF\xFF\xFF\xFF\xFF\xFF\xFF\xFF\xFF\xFF\x80\0\x80\0\x80\0\x2F\xAF\x90\xDC",
+            b"\nmessage,1024,3,2,4294967295,281474976710655,281474976710655,281474976710655,-32768,-32768,-32768\nend,1024,locked\n",
+        ),
+        (
+            b"\xD5\x94\x12\x00\0\0\0\x01\0\0\0\0\x03\xE8\0\0\0\0\0\0\0\0\0\0\0\0\0\x01\xFF\xFF\0\0\x57\x5E\xFD\x62",
+            b"\nrefused,1024,2\nend,1024,locked\n",
+        ),
+        (
+            b"\xD5\x94\x11\x00\0\0\0\x01\0\0\0\0\x03\xE8\0\0\0\0\0\0\0\0\0\0\0\0\0\x01\xFF\xFF\0\0\x8C\x06\xBF\xF7",
+            b"\nrefused,1024,3\nend,1024,locked\n",
+        ),
+        (
+            b"\xD5\x94\x12\x02\0\0\0\x01\0\0\0\0\x03\xE8\0\0\0\0\0\0\0\0\0\0\0\0\0\x01\xFF\xFF\0\0\xBC\x22\x70\x0D",
+            b"\nrefused,1024,4\nend,1024,locked\n",
+        ),
+        (
+            b"\xD5\x94\x12\x00\0\0\0\x01\0\0\0\0\x03\xE8\0\0\0\0\0\0\0\0\0\0\0\x01\0\x01\xFF\xFF\0\0\x18\x09\x95\x72",
+            b"\nrefused,1024,5\nend,1024,locked\n",
+        ),
+    ];
+    for (message, lines) in rows {
+        let told = shown(rt.alloc(), b"12", &carrying(rt.alloc(), message)?)?;
+        assert!(rt; told.1.ends_with(lines), "at {lines:?}");
+    }
+    Ok(())
+}
+
 #[test]
 fn a_larger_input_has_no_text(rt: HostRuntime) -> Result<(), Fail> {
     let alloc = rt.alloc();
