@@ -42,9 +42,10 @@ fn cosines(cycle: u8) -> &'static [i64]
     }
 }
 
-/// The factor of the set of that number: the cosine and the sine of its place in the cycle. The sine is the cosine a quarter
-/// turn before.
-pub(crate) fn factor(cycle: u8, number: u32) -> Phasor
+/// The factor of the set of that number, in a cycle of 4, 8, 12, 16 or 20 samples: 16384 times the cosine and the sine of its
+/// place in the cycle, rounded. Numbers that lie whole cycles apart have one factor. The sine is the cosine a quarter turn before.
+/// (Full-cycle Fourier sums; the whole-number tables are this project's own.)
+pub fn factor(cycle: u8, number: u32) -> Phasor
     requires { is_cycle cycle ≡ true }
     ensures factor { result ≡ factor cycle number }
     ensures size { IsWithin factor_bits result }

@@ -9,6 +9,7 @@ mod ring;
 mod steps;
 mod window;
 
+pub use factors::factor;
 pub use phasor::Phasor;
 pub use steps::Steps;
 pub use window::Window;
