@@ -1,8 +1,13 @@
+pub mod ClockFacts
 pub mod ColumnFacts
 pub mod DraftFacts
 pub mod DraftKept
 pub mod NumberFacts
+pub mod PlanKept
 pub mod ReadFacts
 pub mod ReadingFacts
+pub mod SaidKept
 pub mod SetupKept
+pub mod ShapeFacts
+pub mod WaveFacts
 pub mod Worked

@@ -1,13 +1,19 @@
--- The definitions on worked rows: a good scenario, its first rows, and rows that break a rule.
-use Rattle.std.proofs.Common.{◌≡◌, refl, ℕ, List, [], ◌∷◌, ◌++◌, Option, Some, None, take}
+-- The definitions on worked rows: a good scenario, its first rows, rows that break a rule, and values of stations.
+use Rattle.std.proofs.Common.{◌≡◌, refl, ℕ, ℤ, pos, negsuc, List, [], ◌∷◌, ◌++◌, Option, Some, None, take}
 use Rattle.std.specs.Prelude.{codes}
-use Rattle.ld_base.specs.Settings.{key_out_of_range, setting_fault}
+use Rattle.ld_base.specs.Settings.{key_out_of_range, setting_fault, usual}
+use Rattle.ld_base.specs.declared.fields.Fields.{Fields}
 use Rattle.ld_base.specs.declared.reason.Reason.{Reason}
 use Rattle.ld_base.specs.declared.reason.Reason.TheVariants as reason
+use Rattle.phasor.specs.Factors.{cosine}
+use Rattle.phasor.specs.Sum.{no_current}
 use Rattle.row_reader.specs.Rows.{Row}
 use Rattle.row_reader.specs.declared.fault.Fault.{Fault}
 use Rattle.waveform_reader.specs.Names.{kind_of, setting_of}
 use Rattle.waveform_reader.specs.Scenario.{fault_of}
+use Rattle.waveform_reader.specs.Shapes.{value_at}
+use Rattle.waveform_reader.specs.declared.shape.Shape.TheVariants as shape
+use Rattle.waveform_reader.specs.declared.shape.ShapeFrom.{ShapeFrom}
 
 -- the settings of load current through a line of two stations, with these channels
 abbrev head_with : List ℕ → List Row
@@ -107,3 +113,49 @@ eleven_misses = refl
 ten_misses : with_seventh (codes "set" ∷ codes "misses" ∷ codes "10" ∷ []) ≡ None
 unfolding kind_of setting_of setting_fault key_out_of_range
 ten_misses = refl
+
+-- the settings of these rows
+abbrev load_fields : Fields
+load_fields = record (usual 2 5) { drift = 20 }
+
+-- a waveform
+abbrev wave : ℕ → ℕ → List ℤ → List ℕ → ShapeFrom
+wave from station amp step = record { station = station; from = from; shape = shape.Wave amp step }
+
+-- load current of station 1
+abbrev load_wave : List ShapeFrom
+load_wave = wave 0 1 (pos 1000 ∷ pos 1000 ∷ pos 1000 ∷ []) (0 ∷ 13 ∷ 7 ∷ []) ∷ []
+
+-- its phases begin a third of a cycle apart, and those below zero are rounded up
+first_value : value_at load_fields load_wave 1 0 ≡ record { a = pos 1000; b = negsuc 586; c = negsuc 586 }
+unfolding cosine
+first_value = refl
+
+-- a twentieth of a cycle is a spacing
+step_over : value_at load_fields load_wave 1 999 ≡ value_at load_fields load_wave 1 0
+unfolding cosine
+step_over = refl
+
+next_value : value_at load_fields load_wave 1 1000 ≡ record { a = pos 951; b = negsuc 308; c = negsuc 808 }
+unfolding cosine
+next_value = refl
+
+-- it isn't that of station 2
+other_station : value_at load_fields load_wave 2 0 ≡ no_current
+other_station = refl
+
+-- a fault at station 1, which begins at tick 100000
+abbrev fault_wave : List ShapeFrom
+fault_wave = wave 100000 1 (pos 16384 ∷ pos 0 ∷ pos 0 ∷ []) (5 ∷ 0 ∷ 0 ∷ []) ∷ []
+
+before_fault : value_at load_fields fault_wave 1 99999 ≡ no_current
+before_fault = refl
+
+set_101 : value_at load_fields fault_wave 1 101000 ≡ record { a = negsuc 5062; b = pos 0; c = pos 0 }
+unfolding cosine
+set_101 = refl
+
+-- of two that begin at one tick the later one counts
+later_counts : value_at load_fields (load_wave ++ wave 0 1 (pos 0 ∷ pos 0 ∷ pos 7 ∷ []) (0 ∷ 0 ∷ 0 ∷ []) ∷ []) 1 0 ≡ record { a = pos 0; b = pos 0; c = pos 7 }
+unfolding cosine
+later_counts = refl

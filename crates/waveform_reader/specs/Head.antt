@@ -1,7 +1,7 @@
 -- The settings of a scenario: what its `set` records say, and what is wrong with them. (This project's own.)
 use Rattle.std.specs.Prelude.{◌≡◌, ◌==◌, true, ℕ, Bool, ◌&&◌, ◌||◌, not, int_le, if◌then◌else◌, ℤ, pos, unsigned_abs, List, [], ◌∷◌, ◌++◌, length, Option, Some, None, is_none, slice_index_or}
 use Rattle.std.specs.List.{list_any}
-use Rattle.ld_base.specs.Settings.{is_cycle, is_within, range_of, setting_fault, usual}
+use Rattle.ld_base.specs.Settings.{IsWithin, is_cycle, is_within, range_of, setting_fault, usual}
 use Rattle.ld_base.specs.declared.fields.Fields.{Fields}
 use Rattle.ld_base.specs.declared.fields.Key.{Key}
 use Rattle.ld_base.specs.declared.fields.Key.TheVariants as key
@@ -148,6 +148,10 @@ has_required given = is_given given (setting.Line key.Stations) && is_given give
 -- whether the settings that must be set are set, and all are accepted
 abbrev pub is_complete : Head → Bool
 is_complete head = has_required head.given && is_none (setting_fault head.fields)
+
+-- where the end is set, it lies in its range
+abbrev pub HasEnd : Head → Type 0
+HasEnd head = is_given head.given setting.End ≡ true → IsWithin (1, 20000000) head.end
 
 -- a `set` that breaks no rule, and what it sets
 pub record Takes (given : List Setting) (row : Row) (s : Setting) (value : ℤ) : Type 0 where

@@ -5,7 +5,7 @@ use Rattle.std.specs.Option.{option_or}
 use Rattle.ld_base.specs.declared.fields.Fields.{Fields}
 use Rattle.ld_base.specs.declared.reason.Reason.TheVariants as reason
 use Rattle.ld_base.specs.declared.rule.Rule.{Rule}
-use Rattle.pingpong.specs.Clock.{Course}
+use Rattle.pingpong.specs.Clock.{Course, phase}
 use Rattle.pingpong.specs.declared.clock.RateFrom.{RateFrom}
 use Rattle.row_reader.specs.Faults.{first_fault}
 use Rattle.row_reader.specs.Rows.{Row}
@@ -23,6 +23,10 @@ pub record Setup : Type 0 where
   pub clocks : List Course
   pub shapes : List ShapeFrom
   pub rules : List Rule
+
+-- the phases of the three clocks at a true time
+abbrev pub phases_at : Setup → ℕ → List ℕ
+phases_at s t = map (λ clock. phase clock t) s.clocks
 
 -- the start of a station's clock, 0 where none is told
 abbrev pub start_of : List Start → ℕ → ℕ

@@ -8,22 +8,26 @@ use Rattle.waveform_reader.specs.declared.shape.Shape.{Shape}
 use Rattle.waveform_reader.specs.declared.shape.Shape.TheVariants as shape
 use Rattle.waveform_reader.specs.declared.shape.ShapeFrom.{ShapeFrom}
 
--- the place in a cycle of 20 steps at a tick, of a wave that began it so many steps ahead
-abbrev pub turn_at : Fields → ℕ → ℕ → ℕ
-turn_at f t step = (20 * t / (f.spacing * f.cycle) + step) % 20
+-- the twentieths of cycles that have gone by since tick 0
+abbrev pub twentieths_at : Fields → ℕ → ℕ
+twentieths_at f t = 20 * t / (f.spacing * f.cycle)
 
--- a phase of a wave: its amplitude times the cosine, rounded toward zero
-abbrev pub wave_value : Fields → ℕ → ℤ → ℕ → ℤ
-wave_value f t amplitude step = int_div (amplitude *ℤ cosine 20 (turn_at f t step)) (pos 16384)
+-- a phase of a wave after so many twentieths: its amplitude times the cosine, its step ahead, rounded toward zero
+abbrev pub wave_value : ℕ → ℤ → ℕ → ℤ
+wave_value twentieths amplitude step = int_div (amplitude *ℤ cosine 20 ((twentieths + step) % 20)) (pos 16384)
+
+-- the phases of a wave after so many twentieths
+abbrev pub wave_values : ℕ → List ℤ → List ℕ → Phases
+wave_values twentieths amp step = record {
+  a = wave_value twentieths (slice_index_or amp 0 (pos 0)) (slice_index step 0);
+  b = wave_value twentieths (slice_index_or amp 1 (pos 0)) (slice_index step 1);
+  c = wave_value twentieths (slice_index_or amp 2 (pos 0)) (slice_index step 2);
+}
 
 -- what a shape gives at a tick
 abbrev pub value_of : Fields → ℕ → Shape → Phases
 value_of f t (shape.Hold phases) = phases
-value_of f t (shape.Wave amp step) = record {
-  a = wave_value f t (slice_index_or amp 0 (pos 0)) (slice_index step 0);
-  b = wave_value f t (slice_index_or amp 1 (pos 0)) (slice_index step 1);
-  c = wave_value f t (slice_index_or amp 2 (pos 0)) (slice_index step 2);
-}
+value_of f t (shape.Wave amp step) = wave_values (twentieths_at f t) amp step
 
 -- whether a waveform is of a station and has begun by a tick
 abbrev pub has_begun : ℕ → ℕ → ShapeFrom → Bool

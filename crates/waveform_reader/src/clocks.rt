@@ -1,9 +1,10 @@
 //! The clocks that records tell of, and the scenario of all records.
 
-ghost use Rattle.std.specs.Prelude.{◌≡◌, ◌≤◌, length};
+ghost use Rattle.std.specs.Prelude.{◌≡◌, ◌≤◌, None, length};
+ghost use Rattle.ld_base.specs.Settings.{IsWithin, setting_fault};
 ghost use Rattle.pingpong.specs.Clock.{Course, IsCourse};
 ghost use Rattle.waveform_reader.specs.Scenario.{rates_of, setup_of, start_of};
-ghost use Rattle.waveform_reader.specs.Sound.{IsDraft};
+ghost use Rattle.waveform_reader.specs.Sound.{IsDraft, IsSetup};
 
 use crate::record::{Rating, Start, station_of};
 use crate::scenario::Scenario;
@@ -22,8 +23,11 @@ pub(crate) fn scenario_of(
     rules: Vec<Rule>,
 ) -> Scenario
     requires drift { settings.drift ≤ 200 }
+    requires accepted { setting_fault settings ≡ None }
+    requires end { IsWithin (1, 20000000) end }
     requires kept { IsDraft settings (record { starts = starts.now; rates = rates.now; shapes = shapes.items; rules = rules.items }) }
-    ensures { result ≡ setup_of settings end (record { starts = starts.now; rates = rates.now; shapes = shapes.items; rules = rules.items }) }
+    ensures whole { result ≡ setup_of settings end (record { starts = starts.now; rates = rates.now; shapes = shapes.items; rules = rules.items }) }
+    ensures kept { IsSetup result }
 {
     let clocks = [
         clock_of(starts, rates, station_of(1)),

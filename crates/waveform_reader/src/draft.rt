@@ -3,10 +3,11 @@
 ghost use Rattle.std.specs.Prelude.{◌≡◌, ◌≤◌, ◌-◌, ◌==◌, ◌&&◌, None, IfErr, OnOk, count_by, max, nat_lt, slice_index, slice_set};
 ghost use Rattle.std.specs.List.{list_any};
 ghost use Rattle.csv.specs.Records.{fields_of};
+ghost use Rattle.ld_base.specs.Settings.{IsWithin, setting_fault};
 ghost use Rattle.waveform_reader.specs.Draft.{is_astray, is_delay, is_failure, is_later_delay, is_one_line, is_out_of_order, is_repeat, is_rule_too_many, is_too_many, no_records, record_fault, row_fault, row_says, with_record, with_row};
 ghost use Rattle.waveform_reader.specs.Refusals.{RefusedBy};
 ghost use Rattle.waveform_reader.specs.Scenario.{setup_of};
-ghost use Rattle.waveform_reader.specs.Sound.{IsDraft};
+ghost use Rattle.waveform_reader.specs.Sound.{IsDraft, IsSetup};
 
 use crate::clocks::scenario_of;
 use crate::column::are_between;
@@ -99,8 +100,11 @@ impl Draft {
     /// The scenario of these settings and records.
     pub(crate) fn finish(self, settings: Settings, end: u64) -> Scenario
         requires drift { settings.drift ≤ 200 }
+        requires accepted { setting_fault settings ≡ None }
+        requires end { IsWithin (1, 20000000) end }
         requires kept { IsDraft settings self }
-        ensures { result ≡ setup_of settings end self }
+        ensures whole { result ≡ setup_of settings end self }
+        ensures kept { IsSetup result }
     {
         let Draft {
             starts,

@@ -2,7 +2,7 @@
 
 ghost use Rattle.std.specs.Prelude.{◌≡◌, IfErr, IfSome, IsNone, MatchResult, None, OnOk, Some, false, true};
 ghost use Rattle.csv.specs.Records.{fields_of};
-ghost use Rattle.ld_base.specs.Settings.{setting_fault};
+ghost use Rattle.ld_base.specs.Settings.{IsWithin, setting_fault};
 ghost use Rattle.row_reader.specs.Numbers.{number};
 ghost use Rattle.waveform_reader.specs.Head.{Takes, accepts, field_of, has_required, heading_fault, is_complete, is_given, is_heading, key_accepts, no_settings, set_fault, with_heading, with_key, with_setting};
 ghost use Rattle.waveform_reader.specs.Names.{is_set, setting_of};
@@ -34,6 +34,8 @@ impl Model for Head {
     ghost Value = { spec.Head };
 
     ghost view = { λ h. record { given = h.given.items; fields = h.fields; end = h.end } };
+
+    ghost invariant = { λ h. spec.HasEnd (record { given = h.given.items; fields = h.fields; end = h.end }) };
 }
 
 /// A setting and its value.
@@ -104,6 +106,7 @@ impl Head {
     /// refused.
     pub(crate) fn close(&self) -> Option<(Settings, u64)>
         ensures closed { IfSome result (λ whole. (is_complete self.now ≡ true) × (whole.0 ≡ self.now.fields) × (whole.1 ≡ self.now.end)) }
+        ensures end { IfSome result (λ whole. IsWithin (1, 20000000) whole.1) }
         ensures open { IsNone result → is_complete self.now ≡ false }
     {
         if !has_required(&self.given) {

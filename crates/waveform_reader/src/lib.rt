@@ -8,6 +8,7 @@ mod draft;
 mod fields;
 mod head;
 mod kind;
+pub mod laws;
 mod reading;
 mod record;
 mod refusal;

@@ -7,6 +7,7 @@ ghost use Rattle.waveform_reader.specs.Head.{heading_faults, no_settings};
 ghost use Rattle.waveform_reader.specs.Progress.{HasDraft, HasHead};
 ghost use Rattle.waveform_reader.specs.Refusals.{Refuses, Tells, told};
 ghost use Rattle.waveform_reader.specs.Scenario.{body_fault, head_rows, scenario_of};
+ghost use Rattle.waveform_reader.specs.Sound.{IsSetup};
 
 use crate::ahead::Ahead;
 use crate::draft::Draft;
@@ -40,6 +41,7 @@ impl From<NoMemory> for ReadScenario {
 /// Reads a text as a scenario.
 pub fn read(alloc: Global, text: &[u8]) -> Result<Scenario, ReadScenario>
     ensures read { IfOk result (λ scenario. scenario_of (rows_of text.now) ≡ Ok scenario) }
+    ensures kept { IfOk result (λ scenario. IsSetup scenario) }
     ensures refused { IfErr result (Refuses (scenario_of (rows_of text.now))) }
 {
     let mut rows = Ahead::new(alloc, text)?;

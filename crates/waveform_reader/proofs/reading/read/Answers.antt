@@ -8,5 +8,5 @@ returns-clause-refused c =
 
 pub returns-in-Ok-clause-read : goal.returns-in-Ok-clause-read
 returns-in-Ok-clause-read c =
-    rw (c.finish.ensures, c.in-Some.ensures.closed.1, c.in-Some.ensures.closed.2)
+    rw (c.finish.ensures.whole, c.in-Some.ensures.closed.1, c.in-Some.ensures.closed.2)
     (accepted (rows_of c.args.text.now) c.in_ok-head.head _ _ (rw c.in_ok-rows.ensures at c.in_ok-head.ensures.read) c.in-Some.ensures.closed.0 c.in-Ok.ensures.read)
