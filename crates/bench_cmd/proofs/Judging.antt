@@ -13,9 +13,9 @@ use Rattle.ld_base.specs.declared.reason.Reason.TheVariants as reason
 use Rattle.phasor.specs.Sum.{set_numbered}
 use Rattle.trip_logic.specs.Progress.{Progress, StandsFor}
 use Rattle.trip_logic.specs.TripAt.{verdicts}
-use Rattle.bench_cmd.specs.Faults.{unless}
-use Rattle.row_reader.specs.Faults.{first_fault}
-use Rattle.bench_cmd.specs.Judge.{judge_line, judge_lines, judge_rows, judge_settings, judge_text, line_of, numbers_fault, numbers_of, row_fault, row_faults, set_of, set_of_numbers}
+use Rattle.row_reader.specs.Faults.{first_fault, unless}
+use Rattle.bench_cmd.specs.Judge.{judge_line, judge_lines, judge_rows, judge_settings, judge_text, line_of, numbers_fault, row_fault, row_faults, set_of, set_of_numbers}
+use Rattle.row_reader.specs.RowNumbers.{numbers_of}
 use Rattle.row_reader.specs.Rows.{Row}
 
 -- where no set has a number from `next` on, the first has a lesser one

@@ -1,13 +1,8 @@
 -- The line that tells of what is wrong with an input.
-use Rattle.std.specs.Prelude.{ℕ, ◌++◌, List, Option, Some, None, Result, Ok, Err, codes, decimal}
+use Rattle.std.specs.Prelude.{ℕ, ◌++◌, List, codes, decimal}
 use Rattle.ld_base.specs.declared.reason.Reason.{Reason}
 use Rattle.ld_base.specs.declared.reason.Reason.TheVariants as reason
 use Rattle.row_reader.specs.declared.fault.Fault.{Fault}
-
--- the text to write, unless there is a fault
-abbrev pub unless : Option Fault → List ℕ → Result (List ℕ) Fault
-unless None text = Ok text
-unless (Some fault) text = Err fault
 
 -- the number of a rule
 abbrev pub reason_number : Reason → ℕ

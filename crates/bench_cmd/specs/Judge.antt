@@ -1,5 +1,5 @@
 -- Judge: the rows of `judge`, their faults, and the text of their verdicts.
-use Rattle.std.specs.Prelude.{ℕ, suc, ◌+◌, Bool, ◌&&◌, not, nat_lt, int_le, ◌==◌, if◌then◌else◌, ℤ, pos, negsuc, unsigned_abs, List, [], ◌∷◌, ◌++◌, map, flat_map, drop, length, Option, Some, None, unwrap_or, Result, slice_index_or, decimal, codes}
+use Rattle.std.specs.Prelude.{ℕ, suc, ◌+◌, Bool, ◌&&◌, not, nat_lt, ◌==◌, if◌then◌else◌, ℤ, pos, negsuc, unsigned_abs, List, [], ◌∷◌, ◌++◌, map, flat_map, drop, length, Option, Some, None, unwrap_or, Result, decimal, codes}
 use Rattle.std.specs.List.{list_all}
 use Rattle.ld_base.specs.Settings.{usual}
 use Rattle.ld_base.specs.declared.fields.Fields.{Fields}
@@ -11,39 +11,19 @@ use Rattle.phasor.specs.Sum.{no_current}
 use Rattle.trip_logic.specs.TripAt.{verdicts}
 use Rattle.trip_logic.specs.declared.verdict.Verdict.{Verdict}
 use Rattle.trip_logic.specs.declared.verdict.Verdict.TheVariants.{Waiting, Restrain, Outside, Trip}
-use Rattle.row_reader.specs.Numbers.{number}
-use Rattle.bench_cmd.specs.Faults.{unless}
-use Rattle.row_reader.specs.Faults.{first_fault}
+use Rattle.row_reader.specs.RowNumbers.{is_between, number_at, numbers_of}
+use Rattle.row_reader.specs.Faults.{first_fault, unless}
 use Rattle.row_reader.specs.declared.fault.Fault.{Fault}
 use Rattle.row_reader.specs.Rows.{Row}
 
--- a number in front of others, where all are there
-abbrev pub both : Option ℤ → Option (List ℤ) → Option (List ℤ)
-both None rest = None
-both (Some first) None = None
-both (Some first) (Some rest) = Some (first ∷ rest)
-
--- the numbers of a row, where each field is one
-abbrev pub numbers_of : Row → Option (List ℤ)
-numbers_of [] = Some []
-numbers_of (field ∷ fields) = both (number field) (numbers_of fields)
-
--- the number at a place of a row
-abbrev pub number_at : List ℤ → ℕ → ℤ
-number_at numbers place = slice_index_or numbers place (pos 0)
-
--- a signed number from low to high
-abbrev pub within_signed : ℤ → ℤ → ℤ → Bool
-within_signed low high number = int_le low number && int_le number high
-
 -- a value of 16 bits
 abbrev pub is_value : ℤ → Bool
-is_value value = within_signed (negsuc 32767) (pos 32767) value
+is_value value = is_between (negsuc 32767, pos 32767) value
 
 -- whether the number of the set and the values lie in their ranges
 abbrev pub is_in_range : List ℤ → Bool
 is_in_range numbers =
-    within_signed (pos 0) (pos 4294967295) (number_at numbers 0)
+    is_between (pos 0, pos 4294967295) (number_at numbers 0)
     && list_all is_value (drop 1 numbers)
 
 -- whether three numbers from a place on are values

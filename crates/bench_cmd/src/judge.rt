@@ -1,8 +1,8 @@
 //! The command `judge`: verdicts of aligned sample sets.
 
-ghost use Rattle.std.specs.Prelude.{◌≡◌, ◌≤◌, ◌++◌, ◌∷◌, [], None, Some, true, false, length, IfOk, MatchOption, MatchResult, OnOk};
+ghost use Rattle.std.specs.Prelude.{◌≡◌, ◌≤◌, ◌+◌, ◌++◌, ◌∷◌, [], None, Some, true, false, length, IfOk, MatchOption, MatchResult, OnOk};
 ghost use Rattle.csv.specs.Records.{fields_of};
-ghost use Rattle.bench_cmd.specs.Judge.{are_values_at, is_in_range, judge_rows, judge_settings, letter, line_of, numbers_of, phases_at, row_fault, set_of, set_of_numbers};
+ghost use Rattle.bench_cmd.specs.Judge.{are_values_at, is_in_range, judge_rows, judge_settings, letter, line_of, phases_at, row_fault, set_of, set_of_numbers};
 ghost use Rattle.row_reader.specs.Rows.{rows_of};
 ghost use Rattle.bench_cmd.specs.Outcomes.{IsOutcome};
 
@@ -10,7 +10,7 @@ use crate::output::Outcome;
 use csv::ByteRecord;
 use itoa::write_digits;
 use ld_base::{Fields, NoMemory, Phases, Reason, SampleSet, Settings};
-use row_reader::{Fault, Rows, number};
+use row_reader::{Fault, Rows, numbers_of};
 use std::alloc::Global;
 use trip_logic::{Trip, Verdict};
 
@@ -69,7 +69,7 @@ fn set_of(row: &ByteRecord, next: u64) -> Result<SampleSet, Reason>
     if row.len() != FIELDS {
         return Err(Reason::Fields);
     }
-    let Some(numbers) = numbers_of(row) else {
+    let Some(numbers) = numbers_of::<FIELDS>(row, 0) else {
         return Err(Reason::Number);
     };
     let Some(set) = set_in_range(&numbers) else {
@@ -81,20 +81,9 @@ fn set_of(row: &ByteRecord, next: u64) -> Result<SampleSet, Reason>
     Ok(set)
 }
 
-// The numbers of a row of seven fields.
-fn numbers_of(row: &ByteRecord) -> Option<[i64; FIELDS]>
-    requires { length (fields_of row.now) ≡ 7 }
-    ensures { result ≡ numbers_of (fields_of row.now) }
-{
-    let mut numbers = [0; FIELDS];
-    for (place, slot) in numbers.iter_mut().enumerate() {
-        *slot = number(row.get(place)?)?;
-    }
-    Some(numbers)
-}
-
 // The set of seven numbers, where all lie in their ranges.
-fn set_in_range(numbers: &[i64; FIELDS]) -> Option<SampleSet>
+fn set_in_range(numbers: &[i64]) -> Option<SampleSet>
+    requires { length numbers.now ≡ 7 }
     ensures { MatchOption result (is_in_range numbers.now ≡ false)
         (λ set. (is_in_range numbers.now ≡ true) × (set ≡ set_of_numbers numbers.now)) }
 {
@@ -109,8 +98,8 @@ fn set_in_range(numbers: &[i64; FIELDS]) -> Option<SampleSet>
 }
 
 // The three values from a place on, where they are values of 16 bits.
-fn phases_at(numbers: &[i64; FIELDS], place: usize) -> Option<Phases>
-    requires { place ≤ 4 }
+fn phases_at(numbers: &[i64], place: usize) -> Option<Phases>
+    requires { place + 3 ≤ length numbers.now }
     ensures { MatchOption result (are_values_at numbers.now place ≡ false)
         (λ phases. (are_values_at numbers.now place ≡ true) × (phases ≡ phases_at numbers.now place)) }
 {

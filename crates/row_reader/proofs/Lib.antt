@@ -1,3 +1,4 @@
 pub mod Digits
 pub mod PlainRows
 pub mod RowFacts
+pub mod RowNumberFacts

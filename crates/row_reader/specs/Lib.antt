@@ -1,4 +1,5 @@
 pub mod Faults
 pub mod Numbers
 pub mod PlainRows
+pub mod RowNumbers
 pub mod Rows

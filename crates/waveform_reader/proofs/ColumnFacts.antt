@@ -1,7 +1,8 @@
 -- Numbers in the ranges of their columns.
 use Rattle.std.proofs.Common.{◌≡◌, refl, ℕ, ◌+◌, ◌<◌, length, drop, ℤ, List, ◌&&◌, add-one, ◌∷◌, get_or}
 use Rattle.std.proofs.Math.Seq.{drop-cons}
-use Rattle.waveform_reader.specs.Columns.{are_between, is_between, number_at, span_of}
+use Rattle.row_reader.specs.RowNumbers.{is_between, number_at}
+use Rattle.waveform_reader.specs.Columns.{are_between, span_of}
 use Rattle.waveform_reader.specs.declared.column.Column.{Column}
 
 -- the numbers from a place on: the one there, and those behind it

@@ -2,7 +2,7 @@ pub mod ClockFacts
 pub mod ColumnFacts
 pub mod DraftFacts
 pub mod DraftKept
-pub mod NumberFacts
+pub mod FieldFacts
 pub mod PlanKept
 pub mod ReadFacts
 pub mod ReadingFacts

@@ -2,7 +2,7 @@
 use Rattle.std.proofs.Common.{◌≡◌, ◌∙◌, sym, refl, ap, arith, ℕ, ◌+◌, true, false, List, length, Option, Some, Ok}
 use Rattle.std.specs.Option.{option_or}
 use Rattle.ld_base.specs.declared.reason.Reason.TheVariants as reason
-use Rattle.row_reader.specs.Faults.{first_fault}
+use Rattle.row_reader.specs.Faults.{first_fault, unless}
 use Rattle.row_reader.specs.Rows.{Row}
 use Rattle.row_reader.specs.declared.fault.Fault.{Fault}
 use Rattle.waveform_reader.specs.Ahead.{Ahead}
@@ -10,7 +10,7 @@ use Rattle.waveform_reader.specs.Draft.{Draft}
 use Rattle.waveform_reader.specs.Head.{Head, heading_faults, is_complete, no_settings}
 use Rattle.waveform_reader.specs.Progress.{HasDraft, HasHead}
 use Rattle.waveform_reader.specs.Refusals.{Refuses, Tells}
-use Rattle.waveform_reader.specs.Scenario.{body_fault, body_rows, draft_of, fault_of, head_of, head_rows, scenario_of, setup_of, unless, whole_fault}
+use Rattle.waveform_reader.specs.Scenario.{body_fault, body_rows, draft_of, fault_of, head_of, head_rows, scenario_of, setup_of, whole_fault}
 use Rattle.waveform_reader.specs.declared.reading.ReadScenario.{ReadScenario}
 use Rattle.waveform_reader.specs.declared.reading.ReadScenario.TheVariants as answer
 

@@ -1,5 +1,6 @@
 -- The numbers of each kind of record and the ranges in which they lie. (This project's own.)
-use Rattle.std.specs.Prelude.{ℕ, ◌+◌, Bool, true, ◌&&◌, int_le, ℤ, pos, neg_ℤ, negsuc, List, [], ◌∷◌, slice_index_or}
+use Rattle.std.specs.Prelude.{ℕ, ◌+◌, Bool, true, ◌&&◌, ℤ, pos, neg_ℤ, negsuc, List, [], ◌∷◌}
+use Rattle.row_reader.specs.RowNumbers.{is_between, number_at}
 use Rattle.waveform_reader.specs.declared.column.Column.{Column}
 use Rattle.waveform_reader.specs.declared.column.Column.TheVariants as column
 use Rattle.waveform_reader.specs.declared.kind.Kind.{Kind}
@@ -33,14 +34,6 @@ span_of drift column.Delay = (pos 1, pos 100000)
 span_of drift column.Bit = (pos 0, pos 255)
 span_of drift column.Extra = (pos 1, pos 1000000)
 span_of drift column.Bits = (pos 1, pos 255)
-
--- whether a number lies in a span
-abbrev pub is_between : ℤ × ℤ → ℤ → Bool
-is_between span number = int_le span.0 number && int_le number span.1
-
--- the number at a place
-abbrev pub number_at : List ℤ → ℕ → ℤ
-number_at numbers place = slice_index_or numbers place (pos 0)
 
 -- whether the numbers from a place on lie in the spans of these columns
 abbrev pub are_between : ℕ → ℕ → List Column → List ℤ → Bool

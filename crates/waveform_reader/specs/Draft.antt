@@ -7,11 +7,11 @@ use Rattle.ld_base.specs.declared.reason.Reason.TheVariants as reason
 use Rattle.ld_base.specs.declared.rule.Act.{Act}
 use Rattle.ld_base.specs.declared.rule.Act.TheVariants as act
 use Rattle.ld_base.specs.declared.rule.Rule.{Rule}
+use Rattle.row_reader.specs.RowNumbers.{number_at, numbers_of}
 use Rattle.row_reader.specs.Rows.{Row}
-use Rattle.waveform_reader.specs.Columns.{are_between, columns_of, number_at}
+use Rattle.waveform_reader.specs.Columns.{are_between, columns_of}
 use Rattle.waveform_reader.specs.Head.{name_of, set_fault}
 use Rattle.waveform_reader.specs.Names.{is_remark, is_set, kind_of}
-use Rattle.waveform_reader.specs.Numbers.{numbers_of}
 use Rattle.waveform_reader.specs.declared.kind.Kind.{Kind}
 use Rattle.waveform_reader.specs.declared.kind.Kind.TheVariants as kind
 use Rattle.waveform_reader.specs.declared.record.Record.{Record}

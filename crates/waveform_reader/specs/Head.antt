@@ -8,6 +8,7 @@ use Rattle.ld_base.specs.declared.fields.Key.TheVariants as key
 use Rattle.ld_base.specs.declared.reason.Reason.{Reason}
 use Rattle.ld_base.specs.declared.reason.Reason.TheVariants as reason
 use Rattle.row_reader.specs.Numbers.{number}
+use Rattle.row_reader.specs.RowNumbers.{is_between}
 use Rattle.row_reader.specs.Rows.{Row}
 use Rattle.waveform_reader.specs.Names.{is_remark, is_set, setting_of}
 use Rattle.waveform_reader.specs.declared.setting.Setting.{Setting}
@@ -57,12 +58,12 @@ is_given given s = list_any (λ before. place_of before == place_of s) given
 abbrev pub key_accepts : Key → ℤ → Bool
 key_accepts key.Cycle value = int_le (pos 0) value && is_cycle (unsigned_abs value)
 key_accepts key.P value = is_within (range_of key.P) (unsigned_abs value)
-key_accepts k value = int_le (pos 0) value && is_within (range_of k) (unsigned_abs value)
+key_accepts k value = is_between (pos (range_of k).0, pos (range_of k).1) value
 
 -- whether a setting may have that value
 abbrev pub accepts : Setting → ℤ → Bool
 accepts (setting.Line k) value = key_accepts k value
-accepts setting.End value = int_le (pos 0) value && is_within (1, 20000000) (unsigned_abs value)
+accepts setting.End value = is_between (pos 1, pos 20000000) value
 
 -- the fields with one key set
 abbrev pub with_key : Fields → Key → ℤ → Fields

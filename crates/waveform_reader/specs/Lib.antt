@@ -3,7 +3,6 @@ pub mod Columns
 pub mod Draft
 pub mod Head
 pub mod Names
-pub mod Numbers
 pub mod Progress
 pub mod Refusals
 pub mod Scenario

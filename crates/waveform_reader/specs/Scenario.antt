@@ -1,5 +1,5 @@
 -- A scenario, and the scenario of a text. (This project's own.)
-use Rattle.std.specs.Prelude.{◌==◌, ℕ, ◌+◌, not, if◌then◌else◌, List, [], ◌∷◌, map, fold, filter, find, drop, length, Option, Some, None, option_map, unwrap_or, Result, Ok, Err}
+use Rattle.std.specs.Prelude.{◌==◌, ℕ, ◌+◌, not, if◌then◌else◌, List, [], ◌∷◌, map, fold, filter, find, drop, length, Option, Some, None, option_map, unwrap_or, Result}
 use Rattle.std.specs.List.{before_first}
 use Rattle.std.specs.Option.{option_or}
 use Rattle.ld_base.specs.declared.fields.Fields.{Fields}
@@ -7,7 +7,7 @@ use Rattle.ld_base.specs.declared.reason.Reason.TheVariants as reason
 use Rattle.ld_base.specs.declared.rule.Rule.{Rule}
 use Rattle.pingpong.specs.Clock.{Course, phase}
 use Rattle.pingpong.specs.declared.clock.RateFrom.{RateFrom}
-use Rattle.row_reader.specs.Faults.{first_fault}
+use Rattle.row_reader.specs.Faults.{first_fault, unless}
 use Rattle.row_reader.specs.Rows.{Row}
 use Rattle.row_reader.specs.declared.fault.Fault.{Fault}
 use Rattle.waveform_reader.specs.Draft.{Draft, no_records, row_faults, with_row}
@@ -79,11 +79,6 @@ setup_of f end draft = record {
   shapes = draft.shapes;
   rules = draft.rules;
 }
-
--- the scenario, unless there is a fault
-abbrev pub unless : Option Fault → Setup → Result Setup Fault
-unless None setup = Ok setup
-unless (Some fault) setup = Err fault
 
 -- the scenario of some rows, or their first fault
 abbrev pub scenario_of : List Row → Result Setup Fault

@@ -1,7 +1,8 @@
 //! What the numbers of records say, and the ranges in which they lie.
 
 ghost use Rattle.std.specs.Prelude.{◌≡◌, length};
-ghost use Rattle.waveform_reader.specs.Columns.{are_between, is_between, span_of};
+ghost use Rattle.row_reader.specs.RowNumbers.{is_between};
+ghost use Rattle.waveform_reader.specs.Columns.{are_between, span_of};
 
 /// What a number of a record says.
 #[derive(Clone, Copy, Debug, PartialEq, Eq)]
@@ -35,17 +36,17 @@ impl Column {
         ensures { result ≡ is_between (span_of drift self) number }
     {
         match self {
-            Column::Tick => within(number, 0, 20_000_000),
-            Column::Station => within(number, 1, 3),
-            Column::Start => within(number, 0, 1_000_000_000_000),
-            Column::Rate => within(number, -i64::from(drift), i64::from(drift)),
-            Column::Value => within(number, -32_768, 32_767),
-            Column::Amplitude => within(number, 0, 32_767),
-            Column::Step => within(number, 0, 19),
-            Column::Delay => within(number, 1, 100_000),
-            Column::Bit => within(number, 0, 255),
-            Column::Extra => within(number, 1, 1_000_000),
-            Column::Bits => within(number, 1, 255),
+            Column::Tick => (0..=20_000_000).contains(&number),
+            Column::Station => (1..=3).contains(&number),
+            Column::Start => (0..=1_000_000_000_000).contains(&number),
+            Column::Rate => (-i64::from(drift)..=i64::from(drift)).contains(&number),
+            Column::Value => (-32_768..=32_767).contains(&number),
+            Column::Amplitude => (0..=32_767).contains(&number),
+            Column::Step => (0..=19).contains(&number),
+            Column::Delay => (1..=100_000).contains(&number),
+            Column::Bit => (0..=255).contains(&number),
+            Column::Extra => (1..=1_000_000).contains(&number),
+            Column::Bits => (1..=255).contains(&number),
         }
     }
 }
@@ -62,10 +63,4 @@ pub(crate) fn are_between(columns: &[Column], drift: u32, numbers: &[i64]) -> bo
         }
     }
     true
-}
-
-fn within(number: i64, low: i64, high: i64) -> bool
-    ensures { result ≡ is_between (low, high) number }
-{
-    low <= number && number <= high
 }

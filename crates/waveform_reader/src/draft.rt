@@ -11,7 +11,7 @@ ghost use Rattle.waveform_reader.specs.Sound.{IsDraft, IsSetup};
 
 use crate::clocks::scenario_of;
 use crate::column::are_between;
-use crate::fields::{field, numbers_of};
+use crate::fields::field;
 use crate::head::Head;
 use crate::kind::Kind;
 use crate::record::{Rating, Record, Start, record_of};
@@ -20,8 +20,12 @@ use crate::scenario::Scenario;
 use crate::shape::ShapeFrom;
 use csv::ByteRecord;
 use ld_base::{Act, Fields, NoMemory, Reason, Rule, Settings, Station};
+use row_reader::numbers_of;
 use std::alloc::Global;
 use std::marker::Model;
+
+/// The most numbers that follow the name of a record.
+const MOST_NUMBERS: usize = 8;
 
 /// The most rates of a clock.
 const MOST_RATES: usize = 16;
@@ -197,7 +201,7 @@ fn record_in(drift: u32, row: &ByteRecord) -> Result<Record, Reason>
     if row.len() != 1 + columns.len() {
         return Err(Reason::Fields);
     }
-    let Some(numbers) = numbers_of(row) else {
+    let Some(numbers) = numbers_of::<MOST_NUMBERS>(row, 1) else {
         return Err(Reason::Number);
     };
     if !are_between(columns, drift, &numbers) {

@@ -1,7 +1,8 @@
 //! What the records behind the settings say.
 
 ghost use Rattle.std.specs.Prelude.{◌≡◌, ◌≤◌, ◌<◌, true, negsuc, pos, length};
-ghost use Rattle.waveform_reader.specs.Columns.{are_between, columns_of, is_between, number_at};
+ghost use Rattle.row_reader.specs.RowNumbers.{is_between, number_at};
+ghost use Rattle.waveform_reader.specs.Columns.{are_between, columns_of};
 ghost use Rattle.waveform_reader.specs.Draft.{amplitudes_of, hold_of, natural_at, record_of, rule_of, shape_of, steps_of, wave_of};
 ghost use Rattle.waveform_reader.specs.declared.kind.Kind.TheVariants as kind;
 

@@ -1,7 +1,6 @@
 //! The settings of a scenario by their keys.
 
-ghost use Rattle.std.specs.Prelude.{◌≡◌, ◌&&◌, int_le, pos, unsigned_abs};
-ghost use Rattle.ld_base.specs.Settings.{is_within};
+ghost use Rattle.std.specs.Prelude.{◌≡◌};
 ghost use Rattle.waveform_reader.specs.Head.{accepts, key_accepts, key_place, place_of};
 ghost use Rattle.waveform_reader.specs.Names.{key_name, setting_name, setting_of};
 
@@ -77,7 +76,7 @@ impl Setting {
     {
         match self {
             Setting::Line(key) => key_accepts(key, value),
-            Setting::End => within(value, 1, 20_000_000),
+            Setting::End => (1..=20_000_000).contains(&value),
         }
     }
 }
@@ -111,27 +110,20 @@ fn key_accepts(key: Key, value: i64) -> bool
     ensures { result ≡ key_accepts key value }
 {
     match key {
-        Key::Stations => within(value, 2, 3),
-        Key::Channels => within(value, 1, 12),
-        Key::Spacing => within(value, 500, 10_000),
+        Key::Stations => (2..=3).contains(&value),
+        Key::Channels => (1..=12).contains(&value),
+        Key::Spacing => (500..=10_000).contains(&value),
         Key::Cycle => matches!(value, 4 | 8 | 12 | 16 | 20),
-        Key::Drift => within(value, 0, 200),
-        Key::Slow => within(value, 1, 200_000),
-        Key::Age => within(value, 1000, 10_000_000),
-        Key::Limit => within(value, 1, 480_000),
-        Key::Silent => within(value, 1, 1_000_000),
-        Key::Count => within(value, 1, 32),
-        Key::Pickup => within(value, 1, 32_767),
-        Key::Rn | Key::Rd | Key::Q => within(value, 1, 10_000),
+        Key::Drift => (0..=200).contains(&value),
+        Key::Slow => (1..=200_000).contains(&value),
+        Key::Age => (1000..=10_000_000).contains(&value),
+        Key::Limit => (1..=480_000).contains(&value),
+        Key::Silent => (1..=1_000_000).contains(&value),
+        Key::Count => (1..=32).contains(&value),
+        Key::Pickup => (1..=32_767).contains(&value),
+        Key::Rn | Key::Rd | Key::Q => (1..=10_000).contains(&value),
         Key::P => value.unsigned_abs() <= 10_000,
-        Key::WordA | Key::WordB => within(value, 128, 255),
-        Key::Misses => within(value, 1, 10),
+        Key::WordA | Key::WordB => (128..=255).contains(&value),
+        Key::Misses => (1..=10).contains(&value),
     }
-}
-
-// Whether a value that isn't negative lies in a range.
-fn within(value: i64, low: u64, high: u64) -> bool
-    ensures { result ≡ (int_le (pos 0) value && is_within (low, high) (unsigned_abs value)) }
-{
-    value >= 0 && low <= value.unsigned_abs() && value.unsigned_abs() <= high
 }

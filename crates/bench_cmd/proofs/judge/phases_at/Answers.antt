@@ -1,5 +1,6 @@
 use Rattle.std.proofs.Common.{◌≡◌, ◌+◌, true, false, rules, arith}
-use Rattle.bench_cmd.specs.Judge.{is_value, number_at}
+use Rattle.row_reader.specs.RowNumbers.{number_at}
+use Rattle.bench_cmd.specs.Judge.{is_value}
 use Rattle.bench_cmd.proofs.judge.phases_at.Goals as goal
 
 pub returns-in_err-ok-3 : goal.returns-in_err-ok-3
