@@ -11,11 +11,12 @@ mod queue;
 mod timetable;
 
 use chunks::chunks;
-use ld_base::{Chunk, Failed, NoMemory, Rule, Station, Wire, WireError};
+use ld_base::{Chunk, Failed, NoMemory, Station, Wire, WireError};
 use queue::Queue;
 use std::alloc::Global;
 use std::marker::Model;
 use timetable::{Timetable, earlier};
+use waveform_reader::Scenario;
 
 /// The last true tick of a scenario.
 const LAST_TICK: u64 = 20_000_000;
@@ -39,18 +40,19 @@ impl Model for ScriptWire {
 }
 
 impl ScriptWire {
-    /// The wire from one station to another, with an empty queue. Of these rules it has those of its line, in their order.
-    pub fn of(
+    /// The wire from one station to another, with an empty queue. Of the scenario's rules it has those of its line, in their
+    /// order.
+    pub fn new(
         alloc: Global,
-        rules: &[Rule],
+        scenario: &Scenario,
         from: Station,
         to: Station,
     ) -> Result<ScriptWire, NoMemory>
-        ensures { IfOk result (λ wire. wire ≡ record { script = record { rules = rules_of from to rules.now; queue = [] }; faults = 0 }) }
+        ensures { IfOk result (λ wire. wire ≡ record { script = record { rules = rules_of from to scenario.now.rules; queue = [] }; faults = 0 }) }
     {
         Ok(ScriptWire {
             alloc,
-            timetable: Timetable::new(alloc, rules, from, to)?,
+            timetable: Timetable::new(alloc, scenario.rules(), from, to)?,
             queue: Queue::new(alloc),
             faults: 0,
         })

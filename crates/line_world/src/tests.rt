@@ -1,7 +1,8 @@
 use crate::ScriptWire;
-use ld_base::{Act, Chunk, Failed, NoMemory, Rule, Station, Wire, WireError};
+use ld_base::{Chunk, Failed, Station, Wire, WireError};
 use std::alloc::Global;
 use std::test::Fail;
+use waveform_reader::read;
 
 // A frame of 32 different bytes.
 const FRAME: [u8; 32] = *b"abcdefghijklmnopqrstuvwxyz012345";
@@ -9,30 +10,16 @@ const FRAME: [u8; 32] = *b"abcdefghijklmnopqrstuvwxyz012345";
 // The last tick at which a wire may be asked.
 const LAST_ASKED: u64 = 60_000_000;
 
-// A rule of the line from station 1 to station 2.
-fn rule(first: u64, last: u64, act: Act) -> Rule {
-    Rule {
-        from: Station::new(1).unwrap_or_default(),
-        to: Station::new(2).unwrap_or_default(),
-        first,
-        last,
-        act,
-    }
-}
+// The settings of a line of three stations.
+const HEAD: &str = "set,stations,3\nset,channels,5\nset,end,20000000\n";
 
-// The wire of that line.
-fn wire(alloc: Global, rules: &[Rule]) -> Result<ScriptWire, NoMemory> {
-    let line = rule(0, 0, Act::Lose);
-    ScriptWire::of(alloc, rules, line.from, line.to)
-}
-
-// A wire whose rules do this from tick 100 to tick 150.
-fn wire_of_acts(alloc: Global, acts: &[Act]) -> Result<ScriptWire, NoMemory> {
-    let mut rules = Vec::new(alloc);
-    for act in acts {
-        rules.push(rule(100, 150, *act))?;
-    }
-    wire(alloc, &rules)
+// The wire from station 1 to station 2 in a scenario of these rows behind its settings.
+fn wire(alloc: Global, rows: &str) -> Result<ScriptWire, Fail> {
+    let text = format!(in alloc; "{HEAD}{rows}")?;
+    let scenario = read(alloc, text.as_bytes()).ok().ok_or("a scenario")?;
+    let from = Station::new(1).ok_or("station 1")?;
+    let to = Station::new(2).ok_or("station 2")?;
+    Ok(ScriptWire::new(alloc, &scenario, from, to)?)
 }
 
 fn send(wire: &mut ScriptWire, at: u64) -> Result<(), WireError> {
@@ -75,33 +62,40 @@ const NONE: u16 = 1000;
 #[test]
 fn each_act_does_its_work(rt: HostRuntime) -> Result<(), Fail> {
     // The frame is sent at tick 125. Of chunks due at one tick the second is taken at the next.
-    let cases: [(&[Act], &[Given]); 17] = [
-        (&[], &[(1125, 0, 256, NONE)]),
-        (&[Act::Delay(1)], &[(126, 0, 256, NONE)]),
-        (&[Act::Delay(7), Act::Delay(3)], &[(128, 0, 256, NONE)]),
-        (&[Act::Lose], &[]),
-        (&[Act::Repeat(5), Act::Lose], &[]),
-        (&[Act::Flip(9)], &[(1125, 0, 256, 9)]),
-        (&[Act::Flip(255)], &[(1125, 0, 256, 255)]),
+    let cases: [(&str, &[Given]); 16] = [
+        ("", &[(1125, 0, 256, NONE)]),
+        ("delay,125,1,2,1\n", &[(126, 0, 256, NONE)]),
+        ("lose,125,125,1,2\n", &[]),
+        ("repeat,100,150,1,2,5\nlose,100,150,1,2\n", &[]),
+        ("flip,125,125,1,2,9\n", &[(1125, 0, 256, 9)]),
+        ("flip,125,125,1,2,255\n", &[(1125, 0, 256, 255)]),
         (
-            &[Act::Flip(0), Act::Flip(9), Act::Flip(0)],
+            "flip,0,125,1,2,0\nflip,125,200,1,2,9\nflip,100,150,1,2,0\n",
             &[(1125, 0, 256, 9)],
         ),
-        (&[Act::Flip(256)], &[(1125, 0, 256, NONE)]),
-        (&[Act::Slip(13), Act::Slip(1)], &[(1125, 13, 243, NONE)]),
-        (&[Act::Slip(8), Act::Flip(8)], &[(1125, 8, 248, 8)]),
-        (&[Act::Slip(255)], &[(1125, 255, 1, NONE)]),
         (
-            &[Act::Cut(100), Act::Cut(9)],
+            "slip,100,150,1,2,13\nslip,100,150,1,2,1\n",
+            &[(1125, 13, 243, NONE)],
+        ),
+        (
+            "slip,100,150,1,2,8\nflip,100,150,1,2,8\n",
+            &[(1125, 8, 248, 8)],
+        ),
+        ("slip,125,125,1,2,255\n", &[(1125, 255, 1, NONE)]),
+        (
+            "cut,100,150,1,2,100\ncut,100,150,1,2,9\n",
             &[(1125, 0, 100, NONE), (1126, 100, 156, NONE)],
         ),
         (
-            &[Act::Cut(9), Act::Slip(200)],
+            "cut,100,150,1,2,9\nslip,100,150,1,2,200\n",
             &[(1125, 200, 9, NONE), (1126, 209, 47, NONE)],
         ),
-        (&[Act::Cut(56), Act::Slip(200)], &[(1125, 200, 56, NONE)]),
         (
-            &[Act::Repeat(50), Act::Repeat(20)],
+            "cut,100,150,1,2,56\nslip,100,150,1,2,200\n",
+            &[(1125, 200, 56, NONE)],
+        ),
+        (
+            "repeat,100,150,1,2,50\nrepeat,100,150,1,2,20\n",
             &[
                 (1125, 0, 256, NONE),
                 (1145, 0, 256, NONE),
@@ -109,16 +103,20 @@ fn each_act_does_its_work(rt: HostRuntime) -> Result<(), Fail> {
             ],
         ),
         (
-            &[Act::Cut(55), Act::Repeat(2), Act::Slip(200)],
+            "cut,100,150,1,2,55\nrepeat,100,150,1,2,2\nslip,100,150,1,2,200\n",
             &[
                 (1125, 200, 55, NONE),
                 (1126, 255, 1, NONE),
                 (1127, 200, 56, NONE),
             ],
         ),
+        (
+            "flip,0,124,1,2,1\nslip,126,300,1,2,8\nlose,0,0,1,2\n",
+            &[(1125, 0, 256, NONE)],
+        ),
     ];
-    for (acts, given) in cases {
-        let mut wire = wire_of_acts(rt.alloc(), acts)?;
+    for (rows, given) in cases {
+        let mut wire = wire(rt.alloc(), rows)?;
         assert_eq!(rt; send(&mut wire, 125), Ok(()));
         let mut last = 125;
         for (at, from, count, inverted) in given {
@@ -140,13 +138,8 @@ fn each_act_does_its_work(rt: HostRuntime) -> Result<(), Fail> {
 
 #[test]
 fn a_failing_call_is_counted_and_does_nothing(rt: HostRuntime) -> Result<(), Fail> {
-    let rules = [
-        rule(100, 200, Act::FailTake),
-        rule(125, 125, Act::FailSend),
-        rule(125, 125, Act::Lose),
-        rule(0, 0, Act::Delay(10)),
-    ];
-    let mut wire = wire(rt.alloc(), &rules)?;
+    let rows = "failtake,100,200,1,2\nfailsend,125,125,1,2\nlose,125,125,1,2\ndelay,0,1,2,10\n";
+    let mut wire = wire(rt.alloc(), rows)?;
     assert_eq!(rt; send(&mut wire, 125), Err(WireError::Failed));
     assert_eq!(rt; quiet_until(&wire, 201), 20_000_000);
     assert_eq!(rt; send(&mut wire, 124), Ok(()));
@@ -168,27 +161,21 @@ fn a_failing_call_is_counted_and_does_nothing(rt: HostRuntime) -> Result<(), Fai
 
 #[test]
 fn the_last_delay_in_the_file_that_has_begun_counts(rt: HostRuntime) -> Result<(), Fail> {
-    let rules = [
-        rule(500, 500, Act::Delay(300)),
-        rule(1000, 1000, Act::Delay(100)),
-        rule(1000, 1000, Act::Delay(200)),
-        rule(750, 750, Act::Delay(50)),
-    ];
+    let rows = "delay,500,1,2,300\ndelay,750,2,1,7\ndelay,1000,1,2,100\ndelay,1000,1,2,200\n";
     let delays = [
         (499u64, 1000u64),
         (500, 300),
-        (749, 300),
-        (750, 50),
-        (999, 50),
-        (1000, 50),
+        (750, 300),
+        (999, 300),
+        (1000, 200),
         (0, 1000),
-        (60_000_000, 50),
+        (60_000_000, 200),
     ];
-    let mut wire = wire(rt.alloc(), &rules)?;
+    let mut wire = wire(rt.alloc(), rows)?;
     for (at, delay) in delays {
         assert_eq!(rt; send(&mut wire, at), Ok(()));
         let due = delay.saturating_add(at);
-        assert_eq!(rt; quiet_until(&wire, at), due.min(60_000_050));
+        assert_eq!(rt; quiet_until(&wire, at), due);
         // The ticks go back and forth, so each chunk is taken at the end of all ticks but the last one.
         assert_eq!(rt; take(&mut wire, LAST_ASKED).is_ok(), true);
     }
@@ -197,15 +184,12 @@ fn the_last_delay_in_the_file_that_has_begun_counts(rt: HostRuntime) -> Result<(
 
 #[test]
 fn a_falling_delay_lets_a_later_frame_overtake(rt: HostRuntime) -> Result<(), Fail> {
-    let rules = [
-        rule(0, 0, Act::Delay(2000)),
-        rule(125, 125, Act::Delay(500)),
-        rule(0, 0, Act::Slip(1)),
-        rule(125, 125, Act::Slip(2)),
-        rule(250, 250, Act::Slip(3)),
-        rule(250, 250, Act::Repeat(250)),
-    ];
-    let mut wire = wire(rt.alloc(), &rules)?;
+    let rows = concat!(
+        "delay,0,1,2,2000\ndelay,125,1,2,500\n",
+        "slip,0,0,1,2,1\nslip,125,125,1,2,2\nslip,250,250,1,2,3\n",
+        "repeat,250,250,1,2,250\n",
+    );
+    let mut wire = wire(rt.alloc(), rows)?;
     for at in [0u64, 125, 250, 500] {
         assert_eq!(rt; send(&mut wire, at), Ok(()));
     }
@@ -226,11 +210,8 @@ fn a_falling_delay_lets_a_later_frame_overtake(rt: HostRuntime) -> Result<(), Fa
 
 #[test]
 fn a_wire_has_the_rules_of_its_line_alone(rt: HostRuntime) -> Result<(), Fail> {
-    let mut back = rule(0, 1000, Act::Lose);
-    (back.from, back.to) = (back.to, back.from);
-    let mut other = rule(0, 1000, Act::FailTake);
-    other.to = Station::new(3).unwrap_or_default();
-    let mut wire = wire(rt.alloc(), &[back, other, rule(0, 0, Act::Slip(8))])?;
+    let rows = "lose,0,1000,2,1\nfailtake,0,1000,1,3\nfailsend,0,1000,3,2\nslip,0,0,1,2,8\n";
+    let mut wire = wire(rt.alloc(), rows)?;
     assert_eq!(rt; send(&mut wire, 0), Ok(()));
     assert_eq!(rt; quiet_until(&wire, 0), 1000);
     assert_eq!(rt; take(&mut wire, 1000), Ok(Some(bits(8, 248, NONE))));
@@ -239,14 +220,8 @@ fn a_wire_has_the_rules_of_its_line_alone(rt: HostRuntime) -> Result<(), Fail> {
 
 #[test]
 fn the_next_tick_is_right_at_any_tick(rt: HostRuntime) -> Result<(), Fail> {
-    let rules = [
-        rule(300, 310, Act::FailTake),
-        rule(100, 105, Act::FailTake),
-        rule(104, 120, Act::FailTake),
-        rule(0, LAST_ASKED, Act::Lose),
-        rule(90, 80, Act::FailTake),
-    ];
-    let mut wire = wire(rt.alloc(), &rules)?;
+    let rows = "failtake,300,310,1,2\nfailtake,100,105,1,2\nfailtake,104,120,1,2\n";
+    let mut wire = wire(rt.alloc(), rows)?;
     let next = [
         (85, 100),
         (100, 100),
@@ -259,7 +234,7 @@ fn the_next_tick_is_right_at_any_tick(rt: HostRuntime) -> Result<(), Fail> {
     ];
     // Whichever ticks the wire has looked at before.
     for (looked, _) in next {
-        assert_eq!(rt; send(&mut wire, looked), Ok(()));
+        let _ = take(&mut wire, looked);
         for (at, tick) in next {
             assert_eq!(rt; quiet_until(&wire, at), tick);
         }
