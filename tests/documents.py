@@ -26,6 +26,11 @@ def rows(name, heading):
     return [[cell.strip() for cell in row.strip("|").split(" | ")] for row in table.splitlines()[2:]]
 
 
+def words_of(definition, name):
+    """The words that a definition gives by cases, as they stand in its file."""
+    return re.findall(r'(?m)^%s .* = codes "([^"]+)"$' % name, text_of(definition))
+
+
 def names_in(*cells):
     return sorted(re.findall(r"`(\w+)`", " ".join(cells)))
 
@@ -55,6 +60,17 @@ def cases():
     yield "--help has the commands of the usage line", helped, commands
     worded = [row[0].partition("`")[2].partition("`")[0].split() for row in rows("docs/FORMATS.md", "Command words")]
     yield "FORMATS.md has the commands of the usage line", worded, commands
+    names = "crates/waveform_reader/specs/Names.antt"
+    keys = [row[0].strip("`") for row in rows("docs/FORMATS.md", "Settings")]
+    yield "FORMATS.md has the key of each setting", keys, words_of(names, "key_name")
+    records = [row[0].strip("`") for row in rows("docs/FORMATS.md", "Scenario")]
+    yield "FORMATS.md has each record of a scenario", records, ["#", "set"] + words_of(names, "kind_name")
+    reasons = re.findall(r"(?m)^reason_number reason\.(\w+) = (\d)$", text_of("crates/bench_cmd/specs/Faults.antt"))
+    for heading in ("Judge", "Rules of a scenario"):
+        told = {(row[1].strip("`"), row[0]) for row in rows("docs/FORMATS.md", heading)}
+        yield "FORMATS.md numbers the rules of %s" % heading, told - set(reasons), set()
+    numbers = sorted({row[0] for row in rows("docs/FORMATS.md", "Rules of a scenario")})
+    yield "FORMATS.md has each rule of a scenario", numbers, sorted(number for _, number in reasons)
     statuses = [row[0] for row in rows("docs/FORMATS.md", "Exit status")]
     yield "FORMATS.md has each status", statuses, ["0", "2", "3", "4", "5", "6", "7"]
     yield "FORMATS.md has the usage line", "`%s`" % USAGE.replace("|", "\\|") in rows("docs/FORMATS.md", "Exit status")[1], True
