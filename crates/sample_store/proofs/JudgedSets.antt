@@ -44,11 +44,17 @@ AreCalls-more f me offers calls sets offer (Some n) are =
           ∙ ap (λ xs. sets ++ given_of f (stamp_of offer) (next_set sets) (set_of f me xs n)) offered;
     }
 
-pub Given-as_a_terminal : (f : Fields) (me : ℕ) (offers : List Offer) → Given f me (as_a_terminal f offers) ≡ JudgedSet f me offers
+AreCalls-as_a_terminal : (f : Fields) (me : ℕ) (offers : List Offer) → AreCalls f me offers (as_a_terminal f offers) (JudgedSet f me offers)
 unfolding along_from
-Given-as_a_terminal f me offers =
-    (along-both
+AreCalls-as_a_terminal f me offers =
+    along-both
     (λ before calls offer. Offered offer ∷ question (stamp_of offer) (put_by f before offer))
     (λ before judged offer. judged_at f me (before ++ offer ∷ []) (stamp_of offer) (next_set judged) (put_by f before offer))
     (AreCalls f me) (record { offers_are = refl; given_are = refl })
-    (λ before calls judged offer are. AreCalls-more f me before calls judged offer (put_by f before offer) are) offers).given_are
+    (λ before calls judged offer are. AreCalls-more f me before calls judged offer (put_by f before offer) are) offers
+
+pub Given-as_a_terminal : (f : Fields) (me : ℕ) (offers : List Offer) → Given f me (as_a_terminal f offers) ≡ JudgedSet f me offers
+Given-as_a_terminal f me offers = (AreCalls-as_a_terminal f me offers).given_are
+
+pub offers_of-as_a_terminal : (f : Fields) (offers : List Offer) → offers_of (as_a_terminal f offers) ≡ offers
+offers_of-as_a_terminal f offers = (AreCalls-as_a_terminal f 0 offers).offers_are

@@ -1,11 +1,10 @@
 -- What a peer's value makes of a store and of what it stands for.
-use Rattle.std.specs.Prelude.{ℤ, pos, negsuc, ◌<ℤ◌, ◌≤ℤ◌, unsigned_abs, nat_le, nat_lt, ◌&&◌, ◌==◌, if◌then◌else◌, is_none, is_some, Option, Some, None, slice_set, slice_index_or}
-use Rattle.std.proofs.Common.{◌≡◌, ◌≢◌, ℕ, ◌+◌, ◌-◌, ◌*◌, ◌/◌, ◌%◌, ◌<◌, ◌≤◌, true, false, List, [], ◌∷◌, ◌++◌, length, inl, inr, refl, ap, sym, ◌∙◌, arith, append-nil}
+use Rattle.std.specs.Prelude.{ℤ, pos, negsuc, nat_le, nat_lt, is_none, is_some, Option, Some, None, slice_set}
+use Rattle.std.proofs.Common.{◌≡◌, ◌≢◌, ℕ, ◌+◌, ◌-◌, ◌*◌, ◌%◌, ◌<◌, ◌≤◌, true, false, List, [], ◌∷◌, ◌++◌, length, inl, inr, refl, ap, sym, ◌∙◌, arith, append-nil}
 use Rattle.std.proofs.lemmas.Bool.{cases_Bool, cases_eq, cases_lt}
 use Rattle.std.proofs.lemmas.Bool.Decides.{nat_tests}
-use Rattle.std.proofs.lemmas.Int.{ints}
 use Rattle.std.proofs.lemmas.List.{get_or-set_same, get_or-set_other}
-use Rattle.std.proofs.Math.Nat.{mul-le-mul_right, div-lt_iff_lt-mul}
+use Rattle.std.proofs.Math.Nat.{mul-le-mul_right}
 use Rattle.ld_base.specs.declared.phases.Phases.{Phases}
 use Rattle.offset_track.specs.Track.{Chosen}
 use Rattle.pingpong.specs.Exchange.{estimate2}
@@ -17,7 +16,7 @@ use Rattle.sample_store.specs.Offers.{Offer, Value, numbered, next_number, place
 use Rattle.sample_store.specs.Stock.{Stock, StandsFor, IsPeer, Puts, held_at, ring_of}
 use Rattle.sample_store.specs.declared.ring.Numbered.{Numbered}
 use Rattle.sample_store.specs.declared.ring.Ring.{Ring}
-use Rattle.sample_store.specs.declared.store.Placed.TheVariants.{Stale, Ahead, Double, Stored}
+use Rattle.sample_store.specs.declared.store.Placed.TheVariants.{Stored}
 use Rattle.sample_store.proofs.Alongs.{along-push}
 use Rattle.sample_store.proofs.JudgedSets.{offers_of-append}
 use Rattle.sample_store.proofs.Numbers.{numbered-other, held-push, test_same, test_other}
@@ -34,7 +33,7 @@ none_held : (held : Option Phases) → is_some held ≡ false → held ≡ None
 none_held None none = refl
 none_held (Some x) none = absurd (cc)
 
-pub IsStored-answer : (spacing limit now : ℕ) (ring : Ring) (z : ℤ) (n : ℕ) → place_answer spacing limit now ring z ≡ Stored n → IsStored spacing limit now ring z n
+pub IsStored-answer : (spacing limit now : ℕ) (ring : Ring) (z : ℤ) (n : ℕ) → place_answer spacing limit now (held_at ring) z ≡ Stored n → IsStored spacing limit now ring z n
 IsStored-answer spacing limit now ring (negsuc k) n answer = absurd (cc)
 IsStored-answer spacing limit now ring (pos k) n answer = elim (cases_Bool (nat_le (k * spacing + limit) now)) [
   | inl old ↦ let stale = rw old at answer in absurd (cc)
@@ -52,14 +51,14 @@ IsStored-answer spacing limit now ring (pos k) n answer = elim (cases_Bool (nat_
 
 -- the other way, for a number that isn't negative
 stored_answer : (spacing limit now : ℕ) (ring : Ring) (k : ℕ) → now < k * spacing + limit → k * spacing ≤ now + spacing → held_at ring k ≡ None
-    → place_answer spacing limit now ring (pos k) ≡ Stored k
+    → place_answer spacing limit now (held_at ring) (pos k) ≡ Stored k
 stored_answer spacing limit now ring k young near free =
     let test : nat_le (k * spacing + limit) now ≡ false = grind (arith, nat_tests) in
     let tests : nat_lt (now + spacing) (k * spacing) ≡ false = grind (arith, nat_tests) in
     rw (test, tests, free) refl
 
 -- a value that isn't put has no place
-place_at-left : (spacing limit now : ℕ) (ring : Ring) (placed : List Numbered) (z : ℤ) → ((n : ℕ) → place_answer spacing limit now ring z ≢ Stored n)
+place_at-left : (spacing limit now : ℕ) (ring : Ring) (placed : List Numbered) (z : ℤ) → ((n : ℕ) → place_answer spacing limit now (held_at ring) z ≢ Stored n)
     → ((k : ℕ) → now < k * spacing + limit → held_at ring k ≡ numbered k placed) → place_at spacing limit now placed z ≡ None
 place_at-left spacing limit now ring placed (negsuc k) left held = refl
 place_at-left spacing limit now ring placed (pos k) left held = elim (cases_Bool (nat_lt now (k * spacing + limit))) [
@@ -88,6 +87,23 @@ place_at-stored spacing limit now ring placed z n stored none =
     let test : nat_lt now (n * spacing + limit) ≡ true = grind (arith, nat_tests) in
     let tests : nat_le (n * spacing) (now + spacing) ≡ true = grind (arith, nat_tests) in
     rw (stored.is, test, tests, none) refl
+
+-- an answer asks only for values that are younger than the limit
+pub place_answer-alike : (spacing limit now : ℕ) (held found : ℕ → Option Phases) (z : ℤ) → ((k : ℕ) → now < k * spacing + limit → held k ≡ found k)
+    → place_answer spacing limit now held z ≡ place_answer spacing limit now found z
+place_answer-alike spacing limit now held found (negsuc k) alike = refl
+place_answer-alike spacing limit now held found (pos k) alike = elim (cases_Bool (nat_le (k * spacing + limit) now)) [
+  | inl old ↦ rw old refl
+  | inr young ↦ let same : held k ≡ found k = alike k (grind (arith, nat_tests)) in rw (young, same) refl
+]
+
+-- so it is by all values that were placed before
+pub place_answer-over_all : (stock : Stock) (calls : List Call) (now peer : ℕ) (z : ℤ) → stock.now ≤ now → IsPeer stock peer → StandsFor stock calls
+    → place_answer stock.fields.spacing stock.fields.limit now (held_at (ring_of stock peer)) z
+    ≡ place_answer stock.fields.spacing stock.fields.limit now (λ n. numbered n (Placed stock.fields.spacing stock.fields.limit peer (offers_of calls))) z
+place_answer-over_all stock calls now peer z later is_peer stands =
+    place_answer-alike stock.fields.spacing stock.fields.limit now (held_at (ring_of stock peer))
+    (λ n. numbered n (Placed stock.fields.spacing stock.fields.limit peer (offers_of calls))) z (λ k young. stands.peers peer is_peer k (omega arith))
 
 -- numbers in one place of a ring lie too far apart for both to be young
 driven_out : (k n spacing limit now : ℕ) (xs : List Numbered) → limit ≤ 48 * spacing → n * spacing ≤ now + spacing → now < n * spacing + limit
@@ -177,7 +193,7 @@ StandsFor-stored stock calls fresh peer number n values ring few inside is_stati
     }
 
 pub StandsFor-unplaced : (stock : Stock) (calls : List Call) (fresh : Chosen) (peer number : ℕ) (values : Phases) → stock.now ≤ fresh.at → IsPeer stock peer
-    → ((n : ℕ) → place_answer stock.fields.spacing stock.fields.limit fresh.at (ring_of stock peer) (Aligned stock.fields.spacing number (estimate2 fresh.exchange)) ≢ Stored n)
+    → ((n : ℕ) → place_answer stock.fields.spacing stock.fields.limit fresh.at (held_at (ring_of stock peer)) (Aligned stock.fields.spacing number (estimate2 fresh.exchange)) ≢ Stored n)
     → StandsFor stock calls → StandsFor stock (calls ++ Offered (Value fresh peer number values) ∷ [])
 StandsFor-unplaced stock calls fresh peer number values later is_peer left stands =
     let f = stock.fields in

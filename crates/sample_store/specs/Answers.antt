@@ -16,13 +16,13 @@ abbrev pub own_answer : ℕ → ℕ → ℕ → OwnTaken
 own_answer spacing next now =
     if nat_le (now % spacing) 1 then (if nat_le next (now / spacing) then Took (now / spacing) else Again (next - 1)) else OffGrid
 
--- to a peer's value that is aligned to a number, where this is the peer's ring
-abbrev pub place_answer : ℕ → ℕ → ℕ → Ring → ℤ → Placed
-place_answer spacing limit now ring (negsuc n) = Stale (negsuc n)
-place_answer spacing limit now ring (pos n) =
+-- to a peer's value that is aligned to a number, by the values of the peer that are kept under numbers
+abbrev pub place_answer : ℕ → ℕ → ℕ → (ℕ → Option Phases) → ℤ → Placed
+place_answer spacing limit now held (negsuc n) = Stale (negsuc n)
+place_answer spacing limit now held (pos n) =
     if nat_le (n * spacing + limit) now then Stale (pos n)
     else if nat_lt (now + spacing) (n * spacing) then Ahead (pos n)
-    else if is_some (held_at ring n) then Double n
+    else if is_some (held n) then Double n
     else Stored n
 
 -- the values kept of a station under a number, in its ring: of one past the line's stations zero

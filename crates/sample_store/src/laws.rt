@@ -5,7 +5,7 @@ ghost use Rattle.ld_base.specs.declared.fields.Fields.{Fields};
 ghost use Rattle.pingpong.specs.Bounded.{Passage};
 ghost use Rattle.pingpong.specs.Reading.{Reading};
 ghost use Rattle.sample_store.specs.Aligned.{Aligned, IsAligned};
-ghost use Rattle.sample_store.specs.Calls.{Given, as_a_terminal};
+ghost use Rattle.sample_store.specs.Calls.{Given, as_a_terminal, offers_of};
 ghost use Rattle.sample_store.specs.Instants.{AreAligned, AreNear};
 ghost use Rattle.sample_store.specs.JudgedSet.{JudgedSet};
 ghost use Rattle.sample_store.specs.Offers.{Offer};
@@ -23,7 +23,8 @@ pub fn aligned_samples_are_near()
 {}
 
 /// Where a store is asked for the set of each value that was put, right after it was, and at no other time, it gives exactly the
-/// judged sets.
+/// judged sets. Among these calls stand exactly its offers, in their order.
 pub fn a_terminal_is_given_the_judged_sets()
-    ensures { (f : Fields) (me : ℕ) (offers : List Offer) → Given f me (as_a_terminal f offers) ≡ JudgedSet f me offers }
+    ensures sets { (f : Fields) (me : ℕ) (offers : List Offer) → Given f me (as_a_terminal f offers) ≡ JudgedSet f me offers }
+    ensures offers { (f : Fields) (offers : List Offer) → offers_of (as_a_terminal f offers) ≡ offers }
 {}

@@ -1,10 +1,11 @@
-ghost use Rattle.std.specs.Prelude.{◌≡◌, ◌≤◌, ◌^◌, ◌≢◌, ◌++◌, ◌∷◌, [], ℕ, List, option_to_list};
+ghost use Rattle.std.specs.Prelude.{◌≡◌, ◌≤◌, ◌^◌, ◌≢◌, ◌++◌, ◌∷◌, [], ℕ, IfSome, List, option_to_list};
 ghost use Rattle.pingpong.specs.Exchange.{estimate2};
 ghost use Rattle.sample_store.specs.Aligned.{Aligned};
 ghost use Rattle.sample_store.specs.Answers.{kept_in, own_answer, place_answer, set_answer, whole_at, with_given};
-ghost use Rattle.sample_store.specs.Calls.{Asked, Call, Given, Offered};
-ghost use Rattle.sample_store.specs.Offers.{Own, Value};
-ghost use Rattle.sample_store.specs.Stock.{IsPeer, StandsFor, ring_of};
+ghost use Rattle.sample_store.specs.Calls.{Asked, Call, Given, Offered, offers_of};
+ghost use Rattle.sample_store.specs.Offers.{Own, Value, numbered};
+ghost use Rattle.sample_store.specs.Offers as offers;
+ghost use Rattle.sample_store.specs.Stock.{IsPeer, StandsFor, held_at, ring_of};
 
 use crate::aligned::aligned;
 use crate::ring::Ring;
@@ -79,6 +80,7 @@ impl Store {
     pub fn own(&mut self, now: Ticks, v: Phases) -> OwnTaken
         requires { self.old.now ≤ now }
         ensures settings { (self.new.fields ≡ self.old.fields) × (self.new.me ≡ self.old.me) × (self.new.now ≤ now) }
+        ensures given_next { self.new.given_next ≡ self.old.given_next }
         ensures taken { result ≡ own_answer self.old.fields.spacing self.old.own_next now }
         ensures refused { ((number : ℕ) → result ≢ OwnTaken.Took number) → self.new ≡ self.old }
         ensures stands { (calls : List Call) → StandsFor self.old calls → StandsFor self.new (calls ++ Offered (Own now v) ∷ []) }
@@ -98,7 +100,12 @@ impl Store {
         requires at { self.old.now ≤ fresh.at }
         requires peer { IsPeer self.old peer }
         ensures settings { (self.new.fields ≡ self.old.fields) × (self.new.me ≡ self.old.me) × (self.new.now ≤ fresh.at) }
-        ensures placed { result ≡ place_answer self.old.fields.spacing self.old.fields.limit fresh.at (ring_of self.old peer)
+        ensures given_next { self.new.given_next ≡ self.old.given_next }
+        ensures placed { result ≡ place_answer self.old.fields.spacing self.old.fields.limit fresh.at (held_at (ring_of self.old peer))
+            (Aligned self.old.fields.spacing number (estimate2 fresh.exchange)) }
+        ensures over_all_calls { (calls : List Call) → StandsFor self.old calls
+            → result ≡ place_answer self.old.fields.spacing self.old.fields.limit fresh.at
+            (λ n. numbered n (offers.Placed self.old.fields.spacing self.old.fields.limit peer (offers_of calls)))
             (Aligned self.old.fields.spacing number (estimate2 fresh.exchange)) }
         ensures refused { ((n : ℕ) → result ≢ Placed.Stored n) → self.new ≡ self.old }
         ensures stands { (calls : List Call) → StandsFor self.old calls → StandsFor self.new (calls ++ Offered (Value fresh peer number v) ∷ []) }
@@ -125,6 +132,7 @@ impl Store {
     pub fn complete(&mut self, now: Ticks, n: u32) -> Option<SampleSet>
         requires { self.old.now ≤ now }
         ensures set { result ≡ set_answer self.old.fields self.old.given_next self.old.rings now n }
+        ensures above { IfSome result (λ set. (set.number ≡ n) × (self.old.given_next ≤ n)) }
         ensures settings { (self.new.fields ≡ self.old.fields) × (self.new.me ≡ self.old.me) × (self.new.now ≡ self.old.now) }
         ensures store { self.new ≡ with_given self.old result }
         ensures given { (calls : List Call) → StandsFor self.old calls
@@ -158,7 +166,7 @@ fn own_number(spacing: u32, next: u64, now: u64) -> OwnTaken
 // What becomes of a peer's value of a number.
 fn place_number(spacing: u32, limit: u32, fresh: &Fresh, number: u32, ring: &Ring) -> Placed
     requires spacing { (500 ≤ spacing) × (spacing ≤ 10000) }
-    ensures { result ≡ place_answer spacing limit fresh.now.at ring.now (Aligned spacing number (estimate2 fresh.now.exchange)) }
+    ensures { result ≡ place_answer spacing limit fresh.now.at (held_at ring.now) (Aligned spacing number (estimate2 fresh.now.exchange)) }
 {
     let n = aligned(spacing, number, fresh.estimate2());
     if n < 0 {

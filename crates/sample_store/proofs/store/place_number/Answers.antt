@@ -1,6 +1,5 @@
-use Rattle.std.proofs.Common.{◌≡◌, FitsSigned, w64, to_z, of_z, ap, sym, ◌∙◌, rules}
+use Rattle.std.proofs.Common.{FitsSigned, w64, to_z, of_z, ap, sym, ◌∙◌, rules}
 use Rattle.std.proofs.lemmas.Int.{to_z-of_z}
-use Rattle.pingpong.specs.Exchange.{estimate2}
 use Rattle.sample_store.specs.Aligned.{Aligned}
 use Rattle.sample_store.proofs.Placings.{Ahead-is, Double-is, Stored-is}
 use Rattle.sample_store.proofs.store.place_number.Goals as goal

@@ -35,6 +35,7 @@ returns-in_default c =
     rw (← c.self.view_is) (rw (c.fields.ensures.same, c.get.ensures.count) at c.own_number-taken.ensures) in
     record {
       settings = (refl, refl, c.requires);
+      given_next = refl;
       taken = answer;
       refused = λ refused. refl;
       stands = λ calls stands. StandsFor-left c.args.self.now calls c.args.now c.args.v (λ n is. c.in_default.not-Took n (answer ∙ is)) stands;
