@@ -6,7 +6,6 @@ use Rattle.ld_base.specs.Message.{Contents}
 use Rattle.ld_base.specs.declared.fields.Fields.{Fields}
 use Rattle.ld_base.specs.declared.phases.SampleSet.{SampleSet}
 use Rattle.c3794_frame.specs.Numbers.{bits_of}
-use Rattle.bit_sync.specs.declared.told.Got.{Got}
 use Rattle.relay_message.specs.MessageOf.{address_of}
 use Rattle.relay_message.specs.Messages.{added}
 use Rattle.relay_message.specs.declared.fault.MessageFault.{MessageFault}
@@ -25,8 +24,8 @@ use Rattle.channel_alarm.specs.Alarms.{turns}
 use Rattle.relay_core.specs.Accepted.{Accepted, Exchanges, InForceWith, is_addressed, last_of}
 use Rattle.relay_core.specs.AlarmState.{AlarmState}
 use Rattle.relay_core.specs.Decided.{JudgedSets, Offers, accepted_by, values_by}
-use Rattle.relay_core.specs.Line.{Gots, Messages, Refusals}
-use Rattle.relay_core.specs.Log.{Call, now, peers}
+use Rattle.relay_core.specs.Line.{Messages, Refusals}
+use Rattle.relay_core.specs.Log.{Call, peers}
 use Rattle.relay_core.specs.Sent.{Begun, Sent}
 use Rattle.relay_core.specs.declared.answers.Change.{Change}
 use Rattle.relay_core.specs.declared.answers.Judged.{Judged}

@@ -1,7 +1,14 @@
 pub mod Accepted
+pub mod Alike
 pub mod AlarmState
 pub mod Answers
 pub mod Decided
+pub mod Decides
+pub mod Follows
 pub mod Line
+pub mod Listens
 pub mod Log
 pub mod Sent
+pub mod StandsFor
+pub mod Talks
+pub mod Turned

@@ -1,7 +1,17 @@
-//! One terminal of the line: what is said of the calls that it was handed, and what it answers to them.
+//! One terminal of the line: what it sends, what it hears, what it places and judges, and which alarms are on.
 #![tactic(auto)]
 
 mod answers;
+mod decider;
+pub mod laws;
+mod listener;
+mod peer;
 mod receipt;
+mod talker;
+mod terminal;
 
 pub use answers::{Change, Changes, Heard, Judged, News, Outgoing, Sampled, Slotted};
+pub use terminal::Terminal;
+
+#[cfg(test)]
+mod tests;

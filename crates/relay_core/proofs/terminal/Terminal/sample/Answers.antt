@@ -1,0 +1,69 @@
+use Rattle.std.proofs.Common.{[], ◌∷◌, ◌∙◌, ap}
+use Rattle.std.specs.List.{flat_map}
+use Rattle.sample_store.specs.Offers.{Own}
+use Rattle.relay_core.specs.Answers.{own_at}
+use Rattle.relay_core.specs.Decided.{Offers}
+use Rattle.relay_core.specs.Log as log
+use Rattle.relay_core.specs.Log.Call.{samples}
+use Rattle.relay_core.specs.StandsFor.{kept_of}
+use Rattle.relay_core.specs.Turned.{told, turned}
+use Rattle.relay_core.proofs.Lists.{written-mapped}
+use Rattle.relay_core.proofs.Sampling.{Offers-samples, Served-samples}
+use Rattle.relay_core.proofs.Standing.{StandsFor-turned, changes-turned, judged_by-offers, span-served, stations-turned}
+use Rattle.relay_core.proofs.terminal.Terminal.sample.Goals as goal
+
+pub invariant_of-self : goal.invariant_of-self
+invariant_of-self c =
+    let span = c.span_with-span.result in
+    let peers = written-mapped (turned span.since span.now) c.self.inside.peers _ c.turn_all-changes.new.peers c.deref_mut.ensures.value c.turn_all-changes.ensures.turned in
+    record {
+      me = c.self.invariant.me;
+      peers = stations-turned span.since span.now c.self.inside.peers.items _ (log.peers c.self.inside.settings c.self.inside.me) peers c.self.invariant.peers;
+      decider = (c.own-own.ensures.settings.0 ∙ c.self.invariant.decider.0, c.own-own.ensures.settings.1 ∙ c.self.invariant.decider.1);
+      decided = c.own-own.ensures.now;
+    }
+
+pub returns-clause-own : goal.returns-clause-own
+returns-clause-own c = λ calls stands.
+    let t = kept_of c.self.inside in
+    let held = rw (← c.self.view_is) at stands in
+    let at = span-served t calls (samples c.args.now c.args.v) c.span_with-span.result held c.span_with-span.ensures in
+    rw (← c.self.view_is)
+    (c.own-own.ensures.taken t.settings t.me (Offers t.settings t.me calls) held.decides ∙ ap (own_at t.settings t.me calls) at.time)
+
+pub returns-clause-judged : goal.returns-clause-judged
+returns-clause-judged c = λ calls stands.
+    let t = kept_of c.self.inside in
+    let call = samples c.args.now c.args.v in
+    let held = rw (← c.self.view_is) at stands in
+    let at = span-served t calls call c.span_with-span.result held c.span_with-span.ensures in
+    let offers = Offers-samples t.settings t.me c.args.now c.span_with-span.result.now calls c.args.v at.time in
+    rw (← c.self.view_is)
+    (judged_by-offers t.settings t.me calls call (Own c.span_with-span.result.now c.args.v ∷ []) offers
+    ∙ c.own-own.ensures.judged t.settings t.me (Offers t.settings t.me calls) held.decides)
+
+pub returns-clause-changes : goal.returns-clause-changes
+returns-clause-changes c = λ calls stands.
+    let t = kept_of c.self.inside in
+    let call = samples c.args.now c.args.v in
+    let span = c.span_with-span.result in
+    let held = rw (← c.self.view_is) at stands in
+    let served = Served-samples t calls c.args.now c.args.v span c.own-own.result.0 c.newest_after-self-inside.result c.own-own.new.self held c.span_with-span.ensures
+    (c.own-own.ensures.taken t.settings t.me (Offers t.settings t.me calls) held.decides) c.newest_after-self-inside.ensures
+    (c.own-own.ensures.decides t.settings t.me (Offers t.settings t.me calls) held.decides) in
+    rw (← c.self.view_is)
+    (c.turn_all-changes.ensures.changes
+    ∙ ap (flat_map (told span.since span.now)) c.deref_mut.ensures.value
+    ∙ changes-turned t calls call span c.newest_after-self-inside.result c.own-own.new.self t.peers served)
+
+pub returns-clause-stands : goal.returns-clause-stands
+returns-clause-stands c = λ calls stands.
+    let t = kept_of c.self.inside in
+    let call = samples c.args.now c.args.v in
+    let span = c.span_with-span.result in
+    let held = rw (← c.self.view_is) at stands in
+    let served = Served-samples t calls c.args.now c.args.v span c.own-own.result.0 c.newest_after-self-inside.result c.own-own.new.self held c.span_with-span.ensures
+    (c.own-own.ensures.taken t.settings t.me (Offers t.settings t.me calls) held.decides) c.newest_after-self-inside.ensures
+    (c.own-own.ensures.decides t.settings t.me (Offers t.settings t.me calls) held.decides) in
+    StandsFor-turned t calls call span c.newest_after-self-inside.result c.own-own.new.self t.peers _ served
+    (written-mapped (turned span.since span.now) c.self.inside.peers _ c.turn_all-changes.new.peers c.deref_mut.ensures.value c.turn_all-changes.ensures.turned)

@@ -1,0 +1,77 @@
+//! The laws of terminals.
+
+ghost use Rattle.std.specs.Prelude.{◌≡◌, map};
+ghost use Rattle.relay_core.specs.Alike.{AreAlike};
+ghost use Rattle.relay_core.specs.Answers.{outgo_of};
+ghost use Rattle.relay_core.specs.StandsFor.{IsPeerOf};
+
+use crate::{Changes, Heard, Sampled, Slotted, Terminal};
+use ld_base::{Chunk, Phases, Station, Ticks};
+
+/// Two terminals that stand for one log answer an own sample alike, and stand for one log then.
+pub fn samples_are_answered_alike(
+    one: &mut Terminal,
+    other: &mut Terminal,
+    now: Ticks,
+    v: Phases,
+) -> (Sampled, Sampled)
+    requires { AreAlike one.old other.old }
+    ensures own { result.0.own ≡ result.1.own }
+    ensures judged { result.0.judged ≡ result.1.judged }
+    ensures changes { result.0.changes.items ≡ result.1.changes.items }
+    ensures alike { AreAlike one.new other.new }
+{
+    (one.sample(now, v), other.sample(now, v))
+}
+
+/// And a slot.
+pub fn slots_are_answered_alike(
+    one: &mut Terminal,
+    other: &mut Terminal,
+    now: Ticks,
+) -> (Slotted, Slotted)
+    requires { AreAlike one.old other.old }
+    ensures frames { map outgo_of result.0.frames.items ≡ map outgo_of result.1.frames.items }
+    ensures changes { result.0.changes.items ≡ result.1.changes.items }
+    ensures alike { AreAlike one.new other.new }
+{
+    (one.slot(now), other.slot(now))
+}
+
+/// And bits of a peer.
+pub fn bits_are_answered_alike(
+    one: &mut Terminal,
+    other: &mut Terminal,
+    now: Ticks,
+    peer: Station,
+    chunk: &Chunk,
+) -> (Heard, Heard)
+    requires alike { AreAlike one.old other.old }
+    requires peer { IsPeerOf one.old peer }
+    ensures frame { result.0.frame ≡ result.1.frame }
+    ensures news { result.0.news ≡ result.1.news }
+    ensures refused { result.0.refused ≡ result.1.refused }
+    ensures taken { result.0.taken ≡ result.1.taken }
+    ensures chosen { result.0.chosen ≡ result.1.chosen }
+    ensures placed { result.0.placed ≡ result.1.placed }
+    ensures judged { result.0.judged ≡ result.1.judged }
+    ensures changes { result.0.changes.items ≡ result.1.changes.items }
+    ensures alike { AreAlike one.new other.new }
+{
+    (one.bits(now, peer, chunk), other.bits(now, peer, chunk))
+}
+
+/// And a failed call on a wire of a peer.
+pub fn faults_are_answered_alike(
+    one: &mut Terminal,
+    other: &mut Terminal,
+    now: Ticks,
+    peer: Station,
+) -> (Changes, Changes)
+    requires alike { AreAlike one.old other.old }
+    requires peer { IsPeerOf one.old peer }
+    ensures changes { result.0.items ≡ result.1.items }
+    ensures alike { AreAlike one.new other.new }
+{
+    (one.fault(now, peer), other.fault(now, peer))
+}

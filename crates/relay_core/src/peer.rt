@@ -1,0 +1,257 @@
+//! What a terminal keeps of one peer.
+
+ghost use Rattle.std.specs.Prelude.{◌≡◌, ◌≢◌, ◌≤◌, ◌+◌, ◌++◌, ◌∷◌, [], ℕ, List, length, map, option_map};
+ghost use Rattle.std.specs.Option.{ForSome, option_to_list};
+ghost use Rattle.ld_base.specs.Message.{IsEcho};
+ghost use Rattle.ld_base.specs.declared.fields.Fields.{Fields};
+ghost use Rattle.offset_track.specs.Track as track;
+ghost use Rattle.pingpong.specs.Exchange.{Stamps};
+ghost use Rattle.relay_core.specs.Answers.{news_in, news_of, taken_of};
+ghost use Rattle.relay_core.specs.Follows.{Brings, Follows, SendsSlot, Signals, exchanges_in, fresh_in, last_after};
+ghost use Rattle.relay_core.specs.Log.{Call};
+ghost use Rattle.relay_core.specs.Log.Call.{faults, hears};
+ghost use Rattle.relay_core.specs.Log as log;
+ghost use Rattle.relay_core.specs.Sent.{echo_of, message_of};
+ghost use Rattle.relay_core.specs.Turned.{facts_kept, told, turned};
+
+use crate::listener::Listener;
+use crate::receipt::Receipt;
+use crate::talker::Talker;
+use crate::{Change, Changes, News, Outgoing};
+use bit_sync::Got;
+use channel_alarm::{Alarms, Facts, Turn};
+use ld_base::{Chunk, Echo, Message, Settings, Station, Ticks};
+use offset_track::{Fresh, Taken, Track};
+use pingpong::{Exchange, exchange_of};
+use relay_message::MessageFault;
+use sample_store::Numbered;
+
+/// Both directions of the line to a peer, the exchanges with it, and its alarms.
+#[derive(Drop)]
+pub(crate) struct Peer {
+    pub(crate) station: Station,
+    listener: Listener,
+    talker: Talker,
+    track: Track,
+    // The last message that was accepted.
+    last: Option<Receipt>,
+    faulty: bool,
+    alarms: Alarms,
+}
+
+/// What bits from a peer bring.
+#[derive(Drop)]
+pub(crate) struct Brought {
+    pub(crate) frame: Option<Got>,
+    pub(crate) news: News,
+    pub(crate) refused: Option<MessageFault>,
+    pub(crate) taken: Option<Taken>,
+    /// The exchange in force, where a message was accepted.
+    pub(crate) fresh: Option<Fresh>,
+}
+
+impl Peer {
+    /// A peer of station `me` before the first call.
+    pub(crate) fn new(s: &Settings, station: Station) -> Peer
+        ensures station { result.station ≡ station }
+        ensures follows { (me : ℕ) → Follows s.now me [] result }
+        ensures signals { (me : ℕ) → Signals s.now me [] result }
+    {
+        Peer {
+            station,
+            listener: Listener::new(s),
+            talker: Talker::new(s),
+            track: Track::new(s),
+            last: None,
+            faulty: false,
+            alarms: Alarms::new(s),
+        }
+    }
+
+    /// Hears the next bits of the peer's line at the terminal's time.
+    pub(crate) fn hear(&mut self, me: Station, now: Ticks, chunk: &Chunk) -> Brought
+        ensures station { self.new.station ≡ self.old.station }
+        ensures alarms { self.new.alarms ≡ self.old.alarms }
+        ensures at { ForSome result.fresh (λ chosen. chosen.at ≡ now) }
+        ensures follows { (f : Fields) (calls : List Call) (at : ℕ) → Follows f me calls self.old
+            → now ≡ log.now (calls ++ hears at self.old.station chunk.now ∷ [])
+            → Follows f me (calls ++ hears at self.old.station chunk.now ∷ []) self.new }
+        ensures brings { (f : Fields) (calls : List Call) (at : ℕ) → Follows f me calls self.old
+            → now ≡ log.now (calls ++ hears at self.old.station chunk.now ∷ [])
+            → Brings f me calls self.old.station (hears at self.old.station chunk.now) result }
+    {
+        self.faulty = false;
+        let told = self.listener.hear(chunk);
+        let news = news_of(self.station, me, &self.last, told.message);
+        let (taken, fresh) = exchanged(&mut self.track, &news, now);
+        self.last = last_after(self.last, &news, now);
+        Brought {
+            frame: told.frame,
+            news,
+            refused: told.refused,
+            taken,
+            fresh,
+        }
+    }
+
+    /// The frame of the next slot, in which the message of the newest own sample may begin.
+    pub(crate) fn slot(&mut self, me: Station, now: Ticks, newest: Option<Numbered>) -> Outgoing
+        requires { self.old.station ≢ me }
+        ensures { SendsSlot me now newest self.old self.new result }
+    {
+        let ready = message_of(me, self.station, now, &self.last, newest);
+        let spoken = self.talker.slot(ready, !self.listener.locked);
+        let bytes = spoken.bytes;
+        Outgoing {
+            to: self.station,
+            bytes,
+            begun: spoken.begun,
+        }
+    }
+
+    /// A call on a wire to or from the peer failed.
+    pub(crate) fn fault(&mut self)
+        ensures station { self.new.station ≡ self.old.station }
+        ensures alarms { self.new.alarms ≡ self.old.alarms }
+        ensures follows { (f : Fields) (me at : ℕ) (calls : List Call) → Follows f me calls self.old
+            → Follows f me (calls ++ faults at self.old.station ∷ []) self.new }
+    {
+        self.faulty = true;
+    }
+
+    /// Turns the peer's alarms by what is known at the terminal's time, and adds those that changed to these changes.
+    pub(crate) fn turn(&mut self, since: Ticks, now: Ticks, changes: &mut Changes)
+        requires { length changes.old.items + 5 ≤ 10 }
+        ensures turned { self.new ≡ turned since now self.old }
+        ensures changes { changes.new.items ≡ changes.old.items ++ told since now self.old }
+    {
+        let facts = self.facts(since, now);
+        let turns = self.alarms.update(&facts);
+        add(changes, self.station, &turns);
+    }
+
+    // What is known of the peer's channel.
+    fn facts(&self, since: Ticks, now: Ticks) -> Facts
+        ensures { result ≡ facts_kept since now self.now }
+    {
+        let heard = match self.last {
+            Some(last) => last.at,
+            None => since,
+        };
+        Facts {
+            locked: self.listener.locked,
+            yellow: self.listener.yellow,
+            quiet: now.get().saturating_sub(heard.get()),
+            aligned: self.track.in_force(now).is_some(),
+            faulty: self.faulty,
+        }
+    }
+}
+
+// What a message from a peer that was complete is to station `me`, which accepted this one last.
+fn news_of(peer: Station, me: Station, last: &Option<Receipt>, message: Option<Message>) -> News
+    ensures { map (news_of me peer last.now) (option_to_list message) ≡ news_in result }
+{
+    let Some(message) = message else {
+        return News::Nothing;
+    };
+    if message.from != peer || message.to != me {
+        return News::Stranger {
+            address: message.from.get() * 16 + message.to.get(),
+        };
+    }
+    match last {
+        Some(last) if message.number <= last.message.number => News::Repeat {
+            number: message.number,
+            last: last.message.number,
+        },
+        _ => News::Accepted(message),
+    }
+}
+
+// What becomes of the exchange of a message that is accepted at the terminal's time, where it has an echo, and the exchange that
+// is in force then.
+fn exchanged(kept: &mut Track, news: &News, now: Ticks) -> (Option<Taken>, Option<Fresh>)
+    ensures settings { (kept.new.slow ≡ kept.old.slow) × (kept.new.age ≡ kept.old.age) }
+    ensures taken { map (taken_of kept.old.slow) (exchanges_in now news.now) ≡ option_to_list result.0 }
+    ensures at { ForSome result.1 (λ chosen. chosen.at ≡ now) }
+    ensures stands { (offered : List Stamps) → track.StandsFor kept.old offered
+        → track.StandsFor kept.new (offered ++ exchanges_in now news.now) }
+    ensures fresh { (offered : List Stamps) → track.StandsFor kept.old offered
+        → result.1 ≡ fresh_in kept.old.slow kept.old.age (offered ++ exchanges_in now news.now) now news.now }
+{
+    let News::Accepted(message) = news else {
+        return (None, None);
+    };
+    let taken = offer(kept, exchange_of(message, now));
+    (taken, kept.in_force(now))
+}
+
+// Hands an exchange to a track, where there is one.
+fn offer(kept: &mut Track, exchange: Option<Exchange>) -> Option<Taken>
+    ensures settings { (kept.new.slow ≡ kept.old.slow) × (kept.new.age ≡ kept.old.age) }
+    ensures taken { result ≡ option_map (taken_of kept.old.slow) exchange }
+    ensures stands { (offered : List Stamps) → track.StandsFor kept.old offered
+        → track.StandsFor kept.new (offered ++ option_to_list exchange) }
+{
+    Some(kept.accept(exchange?))
+}
+
+// The last message accepted, with this news at the terminal's time.
+fn last_after(last: Option<Receipt>, news: &News, now: Ticks) -> Option<Receipt>
+    ensures { result ≡ last_after last now news.now }
+{
+    match news {
+        News::Accepted(message) => Some(Receipt {
+            message: *message,
+            at: now,
+        }),
+        News::Nothing | News::Repeat { .. } | News::Stranger { .. } => last,
+    }
+}
+
+// The message that tells a peer of a sample, with an echo of the last message accepted.
+fn message_of(
+    me: Station,
+    peer: Station,
+    now: Ticks,
+    last: &Option<Receipt>,
+    sample: Option<Numbered>,
+) -> Option<Message>
+    requires { peer ≢ me }
+    ensures { result ≡ option_map (message_of me peer now (echo_of last.now)) sample }
+{
+    let sample = sample?;
+    Some(Message {
+        from: me,
+        to: peer,
+        number: sample.number,
+        sent: now.get(),
+        echo: echo_of(last),
+        phases: sample.values,
+    })
+}
+
+// The echo of a message that was accepted.
+fn echo_of(last: &Option<Receipt>) -> Option<Echo>
+    ensures echo { result ≡ echo_of last.now }
+    ensures small { ForSome result IsEcho }
+{
+    match last {
+        None => None,
+        Some(last) => Some(Echo {
+            sent: last.message.sent,
+            came: last.at.get(),
+        }),
+    }
+}
+
+// Adds the turns of a peer's alarms to some changes.
+fn add(changes: &mut Changes, peer: Station, turns: &[Turn])
+    requires { length changes.old.items + length turns.now ≤ 10 }
+    ensures { changes.new.items ≡ changes.old.items ++ map (λ turn. record { peer = peer; turn = turn }) turns.now }
+{
+    for turn in turns {
+        changes.push(Change { peer, turn: *turn });
+    }
+}

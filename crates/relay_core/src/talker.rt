@@ -1,0 +1,63 @@
+//! The sending side of a line: from messages to frames.
+
+ghost use Rattle.std.specs.Prelude.{◌≡◌, List, []};
+ghost use Rattle.ld_base.specs.Message.{Contents};
+ghost use Rattle.ld_base.specs.declared.fields.Fields.{Fields};
+ghost use Rattle.payload_map.specs.Sent.{Slot};
+ghost use Rattle.relay_core.specs.Talks.{Begins, Speaks, Talks};
+
+use ld_base::{Message, Settings};
+use payload_map::Outlet;
+use relay_message::encode;
+
+/// Puts messages into the frames of a line to a peer, each sample's once.
+#[derive(Drop)]
+pub(crate) struct Talker {
+    outlet: Outlet,
+    // The least number above that of the last message that began.
+    next: u64,
+}
+
+/// A frame to a peer, and the message that begins in it, where one does.
+#[derive(Clone, Copy, Debug, PartialEq, Eq)]
+pub(crate) struct Spoken {
+    pub(crate) bytes: [u8; 32],
+    pub(crate) begun: Option<Message>,
+}
+
+impl Talker {
+    /// Before the first slot.
+    pub(crate) fn new(s: &Settings) -> Talker
+        ensures { Talks s.now result [] }
+    {
+        Talker {
+            outlet: Outlet::new(s.fields().channels, s.words()),
+            next: 0,
+        }
+    }
+
+    /// The frame of the next slot. The message that is ready begins where none is in flight and its number is above that of the
+    /// last one that began.
+    pub(crate) fn slot(&mut self, ready: Option<Message>, yellow: bool) -> Spoken
+        ensures { (f : Fields) (slots : List (Slot Contents)) → Talks f self.old slots → Speaks f self.new slots ready yellow result }
+    {
+        let begun = self.begin(ready);
+        Spoken {
+            bytes: self.outlet.slot(yellow),
+            begun,
+        }
+    }
+
+    // Loads the message that is ready, where it begins with the next slot.
+    fn begin(&mut self, ready: Option<Message>) -> Option<Message>
+        ensures { (f : Fields) (slots : List (Slot Contents)) → Talks f self.old slots → Begins f self.new slots ready result }
+    {
+        let message = ready?;
+        if u64::from(message.number) < self.next {
+            return None;
+        }
+        self.outlet.load(encode(&message)).ok()?;
+        self.next = u64::from(message.number) + 1;
+        Some(message)
+    }
+}

@@ -1,0 +1,321 @@
+//! The calls of a terminal.
+
+ghost use Rattle.std.specs.Prelude.{◌≡◌, ◌≢◌, ◌≤◌, ◌++◌, ◌∷◌, [], ℕ, List, IfOk, OnOk, All, ◌<◌, filter, length, map, Some, slice_get, slice_index_or, option_map};
+ghost use Rattle.std.specs.List.{flat_map};
+ghost use Rattle.std.specs.Option.{ForSome, option_to_list};
+ghost use Rattle.ld_base.specs.declared.fields.Fields.{Fields};
+ghost use Rattle.relay_core.specs.Answers.{changes_by, chosen_by, judged_by, judgements, news_by, news_in, outgo_by, outgo_of, own_at, placed_by, placed_of, refused_by, taken_by};
+ghost use Rattle.sample_store.specs.JudgedSet.{JudgedSet};
+ghost use Rattle.sample_store.specs.Offers.{Offer};
+ghost use Rattle.relay_core.specs.Decides.{Decides};
+ghost use Rattle.relay_core.specs.Decided.{newest_after};
+ghost use Rattle.relay_core.specs.Follows.{Follows, SendsSlot, Signals, values_in};
+ghost use Rattle.relay_core.specs.Line.{Gots};
+ghost use Rattle.relay_core.specs.Log.{Call, clock, is_peer, peers};
+ghost use Rattle.relay_core.specs.Log as log;
+ghost use Rattle.relay_core.specs.Log.Call.{faults, hears, samples, sends};
+ghost use Rattle.relay_core.specs.StandsFor.{IsPeerOf, StandsFor, span_with};
+ghost use Rattle.relay_core.specs.Turned.{told, turned};
+ghost use Rattle.relay_core.specs.declared.answers.Outgoing.{Outgoing};
+ghost use Rattle.relay_core.specs.declared.peer.Peer.{Peer};
+ghost use Rattle.relay_message.specs.Messages.{added};
+
+use crate::decider::Decider;
+use crate::peer::Peer;
+use crate::{Changes, Heard, Judged, News, Outgoing, Sampled, Slotted};
+use arrayvec::ArrayVec;
+use ld_base::{Chunk, NoMemory, Phases, Settings, Station, Ticks};
+use offset_track::Fresh;
+use pingpong::Exchange;
+use sample_store::{Numbered, OwnTaken, Placed};
+use std::alloc::Global;
+use std::marker::Model;
+
+/// A terminal of the line: it samples the own currents, sends and hears messages, aligns what it hears, and judges.
+/// Its time is the greatest stamp handed to it so far, that of the present call included. No call after `new` takes memory.
+#[derive(Drop)]
+pub struct Terminal {
+    settings: Settings,
+    me: Station,
+    span: Option<Span>,
+    newest: Option<Numbered>,
+    decider: Decider,
+    peers: Vec<Peer>,
+}
+
+// The terminal's time at the first call and at the last.
+#[derive(Clone, Copy, Debug, PartialEq, Eq)]
+struct Span {
+    since: Ticks,
+    now: Ticks,
+}
+
+impl Model for Terminal {
+    ghost use Rattle.relay_core.specs.StandsFor.{IsTerminal, Kept, kept_of};
+
+    ghost Value = { Kept };
+
+    ghost view = { kept_of };
+
+    ghost invariant = { IsTerminal };
+}
+
+impl Terminal {
+    /// The terminal of station `me` before the first call.
+    pub fn new(alloc: Global, s: &Settings, me: Station) -> Result<Terminal, NoMemory>
+        requires { me ≤ s.now.stations }
+        ensures settings { IfOk result (λ t. (t.settings ≡ s.now) × (t.me ≡ me)) }
+        ensures stands { IfOk result (λ t. StandsFor t []) }
+    {
+        Ok(Terminal {
+            settings: *s,
+            me,
+            span: None,
+            newest: None,
+            decider: Decider::new(alloc, s, me)?,
+            peers: peers_of(alloc, s, me)?,
+        })
+    }
+
+    /// The terminal's time, in ticks. None exactly before the first call.
+    pub fn clock(&self) -> Option<Ticks>
+        ensures { (calls : List Call) → StandsFor self.now calls → result ≡ clock calls }
+    {
+        Some(self.span?.now)
+    }
+
+    /// Takes an own sample, and judges the set that it completes.
+    pub fn sample(&mut self, now: Ticks, v: Phases) -> Sampled
+        ensures settings { (self.new.settings ≡ self.old.settings) × (self.new.me ≡ self.old.me) }
+        ensures own { (calls : List Call) → StandsFor self.old calls
+            → result.own ≡ own_at self.old.settings self.old.me calls (log.now (calls ++ samples now v ∷ [])) }
+        ensures judged { (calls : List Call) → StandsFor self.old calls
+            → judged_by self.old.settings self.old.me calls (samples now v) ≡ option_to_list result.judged }
+        ensures changes { (calls : List Call) → StandsFor self.old calls
+            → result.changes.items ≡ changes_by self.old.settings self.old.me calls (samples now v) }
+        ensures stands { (calls : List Call) → StandsFor self.old calls → StandsFor self.new (calls ++ samples now v ∷ []) }
+    {
+        let span = span_with(self.span, now);
+        let (since, now) = (span.since, span.now);
+        self.span = Some(span);
+        let (own, judged) = self.decider.own(now, v);
+        self.newest = newest_after(self.newest, own, v);
+        let changes = turn_all(&mut self.peers, since, now);
+        Sampled {
+            own,
+            judged,
+            changes,
+        }
+    }
+
+    /// The frames of the next slot, one to each peer.
+    pub fn slot(&mut self, now: Ticks) -> Slotted
+        ensures settings { (self.new.settings ≡ self.old.settings) × (self.new.me ≡ self.old.me) }
+        ensures frames { (calls : List Call) → StandsFor self.old calls
+            → map outgo_of result.frames.items ≡ map (outgo_by self.old.settings self.old.me calls (sends now)) (peers self.old.settings self.old.me) }
+        ensures changes { (calls : List Call) → StandsFor self.old calls
+            → result.changes.items ≡ changes_by self.old.settings self.old.me calls (sends now) }
+        ensures stands { (calls : List Call) → StandsFor self.old calls → StandsFor self.new (calls ++ sends now ∷ []) }
+    {
+        let span = span_with(self.span, now);
+        let (since, now) = (span.since, span.now);
+        self.span = Some(span);
+        let frames = send_to_all(&mut self.peers, self.me, now, self.newest);
+        let changes = turn_all(&mut self.peers, since, now);
+        Slotted { frames, changes }
+    }
+
+    /// Takes in the next bits of the line from a peer.
+    pub fn bits(&mut self, now: Ticks, peer: Station, chunk: &Chunk) -> Heard
+        requires { IsPeerOf self.old peer }
+        ensures settings { (self.new.settings ≡ self.old.settings) × (self.new.me ≡ self.old.me) }
+        ensures frame { (calls : List Call) → StandsFor self.old calls
+            → added (Gots self.old.settings peer) calls (hears now peer chunk.now ∷ []) ≡ option_to_list result.frame }
+        ensures news { (calls : List Call) → StandsFor self.old calls
+            → news_by self.old.settings self.old.me peer calls (hears now peer chunk.now) ≡ news_in result.news }
+        ensures refused { (calls : List Call) → StandsFor self.old calls
+            → result.refused ≡ refused_by self.old.settings peer calls (hears now peer chunk.now) }
+        ensures taken { (calls : List Call) → StandsFor self.old calls
+            → taken_by self.old.settings self.old.me peer calls (hears now peer chunk.now) ≡ option_to_list result.taken }
+        ensures chosen { (calls : List Call) → StandsFor self.old calls
+            → chosen_by self.old.settings self.old.me peer calls (hears now peer chunk.now) ≡ option_to_list result.chosen }
+        ensures placed { (calls : List Call) → StandsFor self.old calls
+            → placed_by self.old.settings self.old.me peer calls (hears now peer chunk.now) ≡ option_to_list result.placed }
+        ensures judged { (calls : List Call) → StandsFor self.old calls
+            → judged_by self.old.settings self.old.me calls (hears now peer chunk.now) ≡ option_to_list result.judged }
+        ensures changes { (calls : List Call) → StandsFor self.old calls
+            → result.changes.items ≡ changes_by self.old.settings self.old.me calls (hears now peer chunk.now) }
+        ensures stands { (calls : List Call) → StandsFor self.old calls
+            → StandsFor self.new (calls ++ hears now peer chunk.now ∷ []) }
+    {
+        let span = span_with(self.span, now);
+        let (since, now) = (span.since, span.now);
+        self.span = Some(span);
+        let place = place_of(self.me, peer);
+        let brought = self.peers[place].hear(self.me, now, chunk);
+        let (placed, judged) = put(&mut self.decider, peer, &brought.news, brought.fresh);
+        let changes = turn_all(&mut self.peers, since, now);
+        Heard {
+            frame: brought.frame,
+            news: brought.news,
+            refused: brought.refused,
+            taken: brought.taken,
+            chosen: exchange_of(brought.fresh),
+            placed,
+            judged,
+            changes,
+        }
+    }
+
+    /// A call on a wire to or from a peer failed.
+    pub fn fault(&mut self, now: Ticks, peer: Station) -> Changes
+        requires { IsPeerOf self.old peer }
+        ensures settings { (self.new.settings ≡ self.old.settings) × (self.new.me ≡ self.old.me) }
+        ensures changes { (calls : List Call) → StandsFor self.old calls
+            → result.items ≡ changes_by self.old.settings self.old.me calls (faults now peer) }
+        ensures stands { (calls : List Call) → StandsFor self.old calls → StandsFor self.new (calls ++ faults now peer ∷ []) }
+    {
+        let span = span_with(self.span, now);
+        let (since, now) = (span.since, span.now);
+        self.span = Some(span);
+        let place = place_of(self.me, peer);
+        self.peers[place].fault();
+        turn_all(&mut self.peers, since, now)
+    }
+}
+
+// A terminal's time with a stamp more.
+fn span_with(span: Option<Span>, stamp: Ticks) -> Span
+    ensures { result ≡ span_with span stamp }
+{
+    match span {
+        None => Span {
+            since: stamp,
+            now: stamp,
+        },
+        Some(span) => Span {
+            since: span.since,
+            now: span.now.max(stamp),
+        },
+    }
+}
+
+// Places the values of a message from a peer that was accepted while an exchange is in force, and judges the set that they
+// complete.
+fn put(
+    decider: &mut Decider,
+    peer: Station,
+    news: &News,
+    fresh: Option<Fresh>,
+) -> (Option<Placed>, Option<Judged>)
+    requires at { ForSome fresh (λ chosen. decider.old.store.now ≤ chosen.at) }
+    requires in_range { peer ≤ decider.old.store.fields.stations }
+    requires other { peer ≢ decider.old.store.me }
+    ensures settings { (decider.new.store.fields ≡ decider.old.store.fields) × (decider.new.store.me ≡ decider.old.store.me) }
+    ensures now { (now : ℕ) → decider.old.store.now ≤ now → ForSome fresh (λ chosen. chosen.at ≤ now) → decider.new.store.now ≤ now }
+    ensures placed { (f : Fields) (me : ℕ) (offers : List Offer) → Decides f me decider.old offers
+        → flat_map (placed_of f offers) (values_in peer news.now fresh) ≡ option_to_list result.0 }
+    ensures judged { (f : Fields) (me : ℕ) (offers : List Offer) → Decides f me decider.old offers
+        → judgements f (JudgedSet f me) offers (values_in peer news.now fresh) ≡ option_to_list result.1 }
+    ensures decides { (f : Fields) (me : ℕ) (offers : List Offer) → Decides f me decider.old offers
+        → Decides f me decider.new (offers ++ values_in peer news.now fresh) }
+{
+    let News::Accepted(message) = news else {
+        return (None, None);
+    };
+    let Some(fresh) = fresh else {
+        return (None, None);
+    };
+    let (placed, judged) = decider.place(fresh, peer, message.number, message.phases);
+    (Some(placed), judged)
+}
+
+// The peers of station `me`, before the first call.
+fn peers_of(alloc: Global, s: &Settings, me: Station) -> Result<Vec<Peer>, NoMemory>
+    ensures stations { IfOk result (λ peers. map (λ p. p.station) peers.items ≡ log.peers s.now me) }
+    ensures follow { IfOk result (λ peers. All (Follows s.now me []) peers.items) }
+    ensures signal { IfOk result (λ peers. All (Signals s.now me []) peers.items) }
+{
+    let mut peers = Vec::with_capacity(alloc, 2)?;
+    add_peer(&mut peers, s, me, 1)?;
+    add_peer(&mut peers, s, me, 2)?;
+    add_peer(&mut peers, s, me, 3)?;
+    Ok(peers)
+}
+
+// Adds a station to the peers of station `me`, where it is one.
+fn add_peer(peers: &mut Vec<Peer>, s: &Settings, me: Station, number: u8) -> Result<(), NoMemory>
+    requires { (1 ≤ number) × (number ≤ 3) }
+    ensures stations { OnOk result (map (λ p. p.station) peers.new.items
+        ≡ map (λ p. p.station) peers.old.items ++ filter (is_peer s.now me) (number ∷ [])) }
+    ensures follow { OnOk result (All (Follows s.now me []) peers.old.items → All (Follows s.now me []) peers.new.items) }
+    ensures signal { OnOk result (All (Signals s.now me []) peers.old.items → All (Signals s.now me []) peers.new.items) }
+{
+    if number > s.fields().stations || number == me.get() {
+        return Ok(());
+    }
+    let Some(station) = Station::new(number) else {
+        unreachable!()
+    };
+    peers.push(Peer::new(s, station))?;
+    Ok(())
+}
+
+// The place of a peer in the list of station `me`.
+fn place_of(me: Station, peer: Station) -> usize
+    requires { peer ≢ me }
+    ensures { (f : Fields) → peer ≤ f.stations → slice_get (log.peers f me) result ≡ Some peer }
+{
+    let before = usize::from(peer.get()) - 1;
+    if peer > me { before - 1 } else { before }
+}
+
+// The newest own sample, where this became of one.
+fn newest_after(newest: Option<Numbered>, own: OwnTaken, v: Phases) -> Option<Numbered>
+    ensures { result ≡ newest_after newest own v }
+{
+    match own {
+        OwnTaken::Took(number) => Some(Numbered { number, values: v }),
+        OwnTaken::OffGrid | OwnTaken::Again(_) => newest,
+    }
+}
+
+// The exchange that was chosen.
+fn exchange_of(fresh: Option<Fresh>) -> Option<Exchange>
+    ensures { result ≡ option_map (λ chosen. chosen.exchange) fresh }
+{
+    Some(fresh?.exchange())
+}
+
+// The frames of the next slot, one to each peer.
+fn send_to_all(
+    peers: &mut [Peer],
+    me: Station,
+    now: Ticks,
+    newest: Option<Numbered>,
+) -> ArrayVec<Outgoing, 2>
+    requires few { length peers.old ≤ 2 }
+    requires others { All (λ p. p.station ≢ me) peers.old }
+    ensures count { (length peers.new ≡ length peers.old) × (length result.items ≡ length peers.old) }
+    ensures each { (k : ℕ) (p q : Peer) (o : Outgoing) → k < length peers.old
+        → SendsSlot me now newest (slice_index_or peers.old k p) (slice_index_or peers.new k q) (slice_index_or result.items k o) }
+{
+    let mut frames = ArrayVec::new();
+    for peer in peers.iter_mut() {
+        frames.push(peer.slot(me, now, newest));
+    }
+    frames
+}
+
+// Turns the alarms of every peer.
+fn turn_all(peers: &mut [Peer], since: Ticks, now: Ticks) -> Changes
+    requires { length peers.old ≤ 2 }
+    ensures turned { peers.new ≡ map (turned since now) peers.old }
+    ensures changes { result.items ≡ flat_map (told since now) peers.old }
+{
+    let mut changes = Changes::new();
+    for peer in peers.iter_mut() {
+        peer.turn(since, now, &mut changes);
+    }
+    changes
+}
