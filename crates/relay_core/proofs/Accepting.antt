@@ -21,7 +21,7 @@ use Rattle.relay_core.proofs.Calls.{Completed-push, added-none}
 pub last_of-push : (receipts : List Receipt) (r : Receipt) → last_of (receipts ++ r ∷ []) ≡ Some r
 last_of-push receipts r = ap (λ rs. slice_get rs 0) (reverse-append receipts (r ∷ []))
 
-next_number-push : (receipts : List Receipt) (r : Receipt) → next_number (receipts ++ r ∷ []) ≡ max (next_number receipts) (r.message.number + 1)
+pub next_number-push : (receipts : List Receipt) (r : Receipt) → next_number (receipts ++ r ∷ []) ≡ max (next_number receipts) (r.message.number + 1)
 next_number-push [] r = omega arith
 next_number-push (first ∷ receipts) r = rw (next_number-push receipts r) (omega arith)
 

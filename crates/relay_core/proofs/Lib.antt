@@ -2,8 +2,10 @@ pub mod Accepting
 pub mod Alarming
 pub mod AnswersAlike
 pub mod Begins
+pub mod Begun
 pub mod Calls
 pub mod Changing
+pub mod Completing
 pub mod Deciding
 pub mod Following
 pub mod Hearing
@@ -17,5 +19,7 @@ pub mod Sending
 pub mod SendingAll
 pub mod Slots
 pub mod Slotting
+pub mod Sound
 pub mod Standing
+pub mod Undamaged
 pub mod Worked

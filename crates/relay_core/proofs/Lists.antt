@@ -1,13 +1,16 @@
 -- Lists of which something is known at each place.
-use Rattle.std.proofs.Common.{◌≡◌, ◌≢◌, ℕ, zero, suc, ◌<◌, ◌≤◌, inl, inr, Bool, true, false, cond, List, [], ◌∷◌, ◌++◌, All, Some, drop, get_or, length, map, set, take, refl, ap, sym, subst, ◌∙◌, arith}
+use Rattle.std.proofs.Common.{◌≡◌, ◌≢◌, ℕ, zero, suc, ◌<◌, ◌≤◌, inl, inr, Bool, true, false, cond, List, [], ◌∷◌, ◌++◌, All, Some, drop, get_or, length, map, reverse, set, take, refl, ap, sym, subst, ◌∙◌, arith}
 use Rattle.std.specs.Prelude.{slice_get, filter}
 use Rattle.std.specs.List.{flat_map}
+use Rattle.std.specs.Option.{ForSome}
 use Rattle.std.specs.Global.{Vec}
 use Rattle.std.specs.Vec.{with_items}
 use Rattle.std.proofs.Math.Seq.{take-append_seam}
 use Rattle.std.proofs.lemmas.Bool.{cases_eq}
-use Rattle.std.proofs.lemmas.List.{get_or-map, get_or-set_other, get_or-set_same, length-map, length-set}
-use Rattle.std.proofs.lemmas.List.Elements.{All-cons}
+use Rattle.std.proofs.lemmas.List.{get_or-map, get_or-set_other, get_or-set_same, length-map, length-set, reverse-append}
+use Rattle.std.proofs.lemmas.List.Elements.{All-append, All-cons, All-nil}
+use Rattle.sample_store.specs.Along.{along}
+use Rattle.sample_store.proofs.Alongs.{along-both}
 
 -- what holds of the first element and of the others
 All-first : {A : Type 0} (P : A → Type 0) (x : A) (xs : List A) → All P (x ∷ xs) → P x
@@ -59,7 +62,7 @@ abbrev pub Rise : ℕ → List ℕ → Type 0
 Rise low [] = Unit {0}
 Rise low (x ∷ xs) = (low < x) × Rise x xs
 
-Rise-lower : (low x : ℕ) (xs : List ℕ) → low ≤ x → Rise x xs → Rise low xs
+pub Rise-lower : (low x : ℕ) (xs : List ℕ) → low ≤ x → Rise x xs → Rise low xs
 Rise-lower low x [] below rise = tt
 Rise-lower low x (y ∷ ys) below rise = (omega (arith, below, rise.0), rise.1)
 
@@ -106,3 +109,41 @@ pub written-mapped : {A : Type 0} (g : A → A) (v : Vec A) (xs ys : List A) →
 written-mapped g v xs ys are mapped =
     let all = mapped ∙ ap (map g) are in
     written v ys (ap length all ∙ length-map v.items g) ∙ all
+
+-- what holds of all holds of the first ones and of the last one
+pub All-front : {A : Type 0} (P : A → Type 0) (xs ys : List A) → All P (xs ++ ys) → All P xs
+All-front P [] ys all = All-nil P
+All-front P (x ∷ xs) ys all = All-cons P x xs (All-first P x (xs ++ ys) all) (All-front P xs ys (All-others P x (xs ++ ys) all))
+
+pub All-end : {A : Type 0} (P : A → Type 0) (xs : List A) (x : A) → All P (xs ++ x ∷ []) → P x
+All-end P [] x all = All-first P x [] all
+All-end P (y ∷ xs) x all = All-end P xs x (All-others P y (xs ++ x ∷ []) all)
+
+All-reverse : {A : Type 0} (P : A → Type 0) (xs : List A) → All P xs → All P (reverse xs)
+All-reverse P [] all = all
+All-reverse P (x ∷ xs) all =
+    subst (All P) (sym (reverse-append (x ∷ []) xs)) (All-append P (reverse xs) (x ∷ []) (All-reverse P xs (All-others P x xs all)) (All-cons P x [] (All-first P x xs all) (All-nil P)))
+
+pub All-last : {A : Type 0} (P : A → Type 0) (xs : List A) → All P xs → ForSome (slice_get (reverse xs) 0) P
+All-last {A = A} P xs all = go (reverse xs) (All-reverse P xs all)
+  where
+    go : (ys : List A) → All P ys → ForSome (slice_get ys 0) P
+    go [] all x is = absurd (cc)
+    go (y ∷ ys) all x is = let same : y ≡ x = cc in subst P same (All-first P y ys all)
+
+-- what is made of each
+pub All-flat_map : {A B : Type 0} (P : B → Type 0) (f : A → List B) (xs : List A) → ((x : A) → All P (f x)) → All P (flat_map f xs)
+All-flat_map P f [] each = All-nil P
+All-flat_map P f (x ∷ xs) each = All-append P (f x) (flat_map f xs) (each x) (All-flat_map P f xs each)
+
+-- a number above all of some that rise
+pub Rise-push : (low x : ℕ) (xs : List ℕ) → low < x → Rise low xs → All (λ y. y < x) xs → Rise low (xs ++ x ∷ [])
+Rise-push low x [] above rise below = (above, tt)
+Rise-push low x (y ∷ ys) above rise below = (rise.0, Rise-push y x ys (All-first (λ z. z < x) y ys below) rise.1 (All-others (λ z. z < x) y ys below))
+
+-- what each element of a list adds, given those before it
+pub along-all : {A B : Type 0} (adds : List A → List B → A → List B) (P : A → Type 0) (Q : B → Type 0)
+    → ((before : List A) (added : List B) (x : A) → All P (before ++ x ∷ []) → All Q (adds before added x)) → (xs : List A) → All P xs → All Q (along adds xs)
+along-all adds P Q each xs =
+    along-both adds adds (λ before added same. All P before → All Q added) (λ none. All-nil Q)
+    (λ before added same x holds all. All-append Q added (adds before added x) (holds (All-front P before (x ∷ []) all)) (each before added x all)) xs

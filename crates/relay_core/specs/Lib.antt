@@ -2,6 +2,7 @@ pub mod Accepted
 pub mod Alike
 pub mod AlarmState
 pub mod Answers
+pub mod Calls
 pub mod Decided
 pub mod Decides
 pub mod Follows

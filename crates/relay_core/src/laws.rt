@@ -1,9 +1,20 @@
 //! The laws of terminals.
 
-ghost use Rattle.std.specs.Prelude.{◌≡◌, map};
+ghost use Rattle.std.specs.Prelude.{◌≡◌, ◌≤◌, ◌*◌, ◌/◌, ℕ, None, List, length, map, take, slice_get};
+ghost use Rattle.std.specs.List.{flat_map};
+ghost use Rattle.std.specs.Option.{ForSome};
+ghost use Rattle.ld_base.specs.Settings.{setting_fault};
+ghost use Rattle.ld_base.specs.declared.fields.Fields.{Fields};
+ghost use Rattle.payload_map.specs.Sent.{whole};
+ghost use Rattle.relay_core.specs.Accepted.{Accepted};
 ghost use Rattle.relay_core.specs.Alike.{AreAlike};
 ghost use Rattle.relay_core.specs.Answers.{outgo_of};
+ghost use Rattle.relay_core.specs.Calls.{AreCalls, AreStations};
+ghost use Rattle.relay_core.specs.Line.{Line};
+ghost use Rattle.relay_core.specs.Log.{Call};
+ghost use Rattle.relay_core.specs.Sent.{Sent, Slots};
 ghost use Rattle.relay_core.specs.StandsFor.{IsPeerOf};
+ghost use Rattle.relay_message.specs.MessageOf.{spelled};
 
 use crate::{Changes, Heard, Sampled, Slotted, Terminal};
 use ld_base::{Chunk, Phases, Station, Ticks};
@@ -74,4 +85,15 @@ pub fn faults_are_answered_alike(
     ensures alike { AreAlike one.new other.new }
 {
     (one.fault(now, peer), other.fault(now, peer))
+}
+
+/// Over an undamaged line, which has the first so many bits of the frames that a peer sent to a station, and whose first frame
+/// carries no message, the station accepts exactly the messages of the peer whose last frame has come whole, in their order.
+pub fn messages_come_over_an_undamaged_line()
+    ensures { (f : Fields) (me peer n : ℕ) (own other : List Call) → setting_fault f ≡ None → AreStations f me peer → AreCalls other
+        → ForSome (slice_get (Slots f peer me other) 0) (λ slot. slot.loaded ≡ None) → n ≤ 256 * length (Slots f peer me other)
+        → Line peer own ≡ take n (flat_map (λ bits. bits) (Sent f peer me other))
+        → map (λ r. r.message) (Accepted f me peer own) ≡ whole spelled f.channels (take (n / 256) (Slots f peer me other)) }
+{
+    payload_map::laws::messages_come_over_an_undamaged_line();
 }

@@ -13,7 +13,7 @@ use Rattle.relay_core.specs.Turned.{told, turned}
 use Rattle.relay_core.proofs.Changing.{IsAt-place, stations-set}
 use Rattle.relay_core.proofs.Lists.{written-mapped}
 use Rattle.relay_core.proofs.Receiving.{IsReceived, Offers-hears, Received, Served-hears, chosen-brought}
-use Rattle.relay_core.proofs.Standing.{StandsFor-turned, changes-turned, decided-later, judged_by-offers, stations-turned}
+use Rattle.relay_core.proofs.Standing.{IsServed, StandsFor-turned, changes-turned, decided-later, judged_by-offers, stations-turned}
 use Rattle.relay_core.proofs.terminal.Terminal.bits.Goals as goal
 
 -- the peer that the bits come from, and what it brings
@@ -66,19 +66,26 @@ returns-clause-judged c = λ calls stands.
     (judged_by-offers t.settings t.me calls (hears c.args.now c.args.peer c.args.chunk.now) (values_in c.args.peer c.hear-brought.result.news c.hear-brought.result.fresh) offers
     ∙ c.put-placed.ensures.judged t.settings t.me (Offers t.settings t.me calls) got.stands.decides)
 
+-- the terminal with what the peer brings
+served : (c : goal.After-exchange_of) (calls : List log.Call) → StandsFor c.args.self.now calls
+    → IsServed (kept_of c.self.inside) calls (hears c.args.now c.args.peer c.args.chunk.now) c.span_with-span.result c.self.inside.newest c.put-placed.new.decider
+    (set c.self.inside.peers.items c.place_of-place.result c.hear-brought.new.self)
+served c calls stands =
+    let t = kept_of c.self.inside in
+    let got = received c calls stands in
+    Served-hears t calls c.args.now c.args.peer c.args.chunk.now c.span_with-span.result c.put-placed.new.decider c.place_of-place.result c.index_mut.result.now
+    c.hear-brought.new.self c.hear-brought.result got
+    (c.put-placed.ensures.decides t.settings t.me (Offers t.settings t.me calls) got.stands.decides) c.hear-brought.ensures.station c.hear-brought.ensures.alarms
+
 pub returns-clause-changes : goal.returns-clause-changes
 returns-clause-changes c = λ calls stands.
     let t = kept_of c.self.inside in
     let span = c.span_with-span.result in
-    let place = c.place_of-place.result in
-    let y = c.hear-brought.new.self in
-    let got = received c calls stands in
-    let served = Served-hears t calls c.args.now c.args.peer c.args.chunk.now span c.put-placed.new.decider place c.index_mut.result.now y c.hear-brought.result got
-    (c.put-placed.ensures.decides t.settings t.me (Offers t.settings t.me calls) got.stands.decides) c.hear-brought.ensures.station c.hear-brought.ensures.alarms in
     rw (← c.self.view_is)
     (c.turn_all-changes.ensures.changes
     ∙ ap (flat_map (told span.since span.now)) c.deref_mut.ensures.value
-    ∙ changes-turned t calls (hears c.args.now c.args.peer c.args.chunk.now) span t.newest c.put-placed.new.decider (set t.peers place y) served)
+    ∙ changes-turned t calls (hears c.args.now c.args.peer c.args.chunk.now) span t.newest c.put-placed.new.decider
+    (set t.peers c.place_of-place.result c.hear-brought.new.self) (served c calls stands))
 
 pub returns-clause-stands : goal.returns-clause-stands
 returns-clause-stands c = λ calls stands.
@@ -86,10 +93,7 @@ returns-clause-stands c = λ calls stands.
     let span = c.span_with-span.result in
     let place = c.place_of-place.result in
     let y = c.hear-brought.new.self in
-    let got = received c calls stands in
-    let served = Served-hears t calls c.args.now c.args.peer c.args.chunk.now span c.put-placed.new.decider place c.index_mut.result.now y c.hear-brought.result got
-    (c.put-placed.ensures.decides t.settings t.me (Offers t.settings t.me calls) got.stands.decides) c.hear-brought.ensures.station c.hear-brought.ensures.alarms in
-    StandsFor-turned t calls (hears c.args.now c.args.peer c.args.chunk.now) span t.newest c.put-placed.new.decider (set t.peers place y) _ served
+    StandsFor-turned t calls (hears c.args.now c.args.peer c.args.chunk.now) span t.newest c.put-placed.new.decider (set t.peers place y) _ (served c calls stands)
     (written-mapped (turned span.since span.now) (with_item c.self.inside.peers place y) _ c.turn_all-changes.new.peers c.deref_mut.ensures.value c.turn_all-changes.ensures.turned)
 
 pub invariant_of-self : goal.invariant_of-self

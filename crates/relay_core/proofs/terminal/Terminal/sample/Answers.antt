@@ -1,15 +1,15 @@
-use Rattle.std.proofs.Common.{[], ◌∷◌, ◌∙◌, ap}
+use Rattle.std.proofs.Common.{List, [], ◌∷◌, ◌∙◌, ap}
 use Rattle.std.specs.List.{flat_map}
 use Rattle.sample_store.specs.Offers.{Own}
 use Rattle.relay_core.specs.Answers.{own_at}
 use Rattle.relay_core.specs.Decided.{Offers}
 use Rattle.relay_core.specs.Log as log
 use Rattle.relay_core.specs.Log.Call.{samples}
-use Rattle.relay_core.specs.StandsFor.{kept_of}
+use Rattle.relay_core.specs.StandsFor.{StandsFor, kept_of}
 use Rattle.relay_core.specs.Turned.{told, turned}
 use Rattle.relay_core.proofs.Lists.{written-mapped}
 use Rattle.relay_core.proofs.Sampling.{Offers-samples, Served-samples}
-use Rattle.relay_core.proofs.Standing.{StandsFor-turned, changes-turned, judged_by-offers, span-served, stations-turned}
+use Rattle.relay_core.proofs.Standing.{IsServed, StandsFor-turned, changes-turned, judged_by-offers, span-served, stations-turned}
 use Rattle.relay_core.proofs.terminal.Terminal.sample.Goals as goal
 
 pub invariant_of-self : goal.invariant_of-self
@@ -42,28 +42,28 @@ returns-clause-judged c = λ calls stands.
     (judged_by-offers t.settings t.me calls call (Own c.span_with-span.result.now c.args.v ∷ []) offers
     ∙ c.own-own.ensures.judged t.settings t.me (Offers t.settings t.me calls) held.decides)
 
+-- the terminal with the sample
+served : (c : goal.After-self-3-1) (calls : List log.Call) → StandsFor c.args.self.now calls
+    → IsServed (kept_of c.self.inside) calls (samples c.args.now c.args.v) c.span_with-span.result c.newest_after-self-inside.result c.own-own.new.self c.self.inside.peers.items
+served c calls stands =
+    let t = kept_of c.self.inside in
+    let held = rw (← c.self.view_is) at stands in
+    Served-samples t calls c.args.now c.args.v c.span_with-span.result c.own-own.result.0 c.newest_after-self-inside.result c.own-own.new.self held c.span_with-span.ensures
+    (c.own-own.ensures.taken t.settings t.me (Offers t.settings t.me calls) held.decides) c.newest_after-self-inside.ensures
+    (c.own-own.ensures.decides t.settings t.me (Offers t.settings t.me calls) held.decides)
+
 pub returns-clause-changes : goal.returns-clause-changes
 returns-clause-changes c = λ calls stands.
     let t = kept_of c.self.inside in
-    let call = samples c.args.now c.args.v in
     let span = c.span_with-span.result in
-    let held = rw (← c.self.view_is) at stands in
-    let served = Served-samples t calls c.args.now c.args.v span c.own-own.result.0 c.newest_after-self-inside.result c.own-own.new.self held c.span_with-span.ensures
-    (c.own-own.ensures.taken t.settings t.me (Offers t.settings t.me calls) held.decides) c.newest_after-self-inside.ensures
-    (c.own-own.ensures.decides t.settings t.me (Offers t.settings t.me calls) held.decides) in
     rw (← c.self.view_is)
     (c.turn_all-changes.ensures.changes
     ∙ ap (flat_map (told span.since span.now)) c.deref_mut.ensures.value
-    ∙ changes-turned t calls call span c.newest_after-self-inside.result c.own-own.new.self t.peers served)
+    ∙ changes-turned t calls (samples c.args.now c.args.v) span c.newest_after-self-inside.result c.own-own.new.self t.peers (served c calls stands))
 
 pub returns-clause-stands : goal.returns-clause-stands
 returns-clause-stands c = λ calls stands.
     let t = kept_of c.self.inside in
-    let call = samples c.args.now c.args.v in
     let span = c.span_with-span.result in
-    let held = rw (← c.self.view_is) at stands in
-    let served = Served-samples t calls c.args.now c.args.v span c.own-own.result.0 c.newest_after-self-inside.result c.own-own.new.self held c.span_with-span.ensures
-    (c.own-own.ensures.taken t.settings t.me (Offers t.settings t.me calls) held.decides) c.newest_after-self-inside.ensures
-    (c.own-own.ensures.decides t.settings t.me (Offers t.settings t.me calls) held.decides) in
-    StandsFor-turned t calls call span c.newest_after-self-inside.result c.own-own.new.self t.peers _ served
+    StandsFor-turned t calls (samples c.args.now c.args.v) span c.newest_after-self-inside.result c.own-own.new.self t.peers _ (served c calls stands)
     (written-mapped (turned span.since span.now) c.self.inside.peers _ c.turn_all-changes.new.peers c.deref_mut.ensures.value c.turn_all-changes.ensures.turned)
