@@ -108,7 +108,12 @@ first_frame r at odd frame misses passes =
     let none : missed_after r odd frame 0 ≡ 0 = ap (λ t. if t then 0 else 0 + 1) passes in
     let g : Got = got r odd frame in
     let judged : ℕ → Reading = λ m. record { events = ending r (at + 256) g m; place = place_after r (at + 256) odd m } in
-    let by_test : Bool → Reading = λ t. record { events = if t then ends (at + 256) g ∷ loses (at + 256) ∷ [] else ends (at + 256) g ∷ []; place = if t then hunts (at + 256) else locked (at + 256) (not odd) 0 } in
+    let by_test : Bool → Reading = λ t. record {
+      events = if t
+          then ends (at + 256) g ∷ loses (at + 256) ∷ []
+          else ends (at + 256) g ∷ [];
+      place = if t then hunts (at + 256) else locked (at + 256) (not odd) 0;
+    } in
     ap judged none ∙ ap by_test (unmissed r.misses misses)
 
 -- what is said of a longer line
@@ -189,7 +194,10 @@ lock_and_frame r line more frame h q second misses few told place from there ste
     let end : onward r bits last.place ≡ None = no_more r bits last.place (omega arith) in
     let reading = two_steps r line more (lock_made r bits q) last step step2' end in
     let one : gots (e ++ locks (q + 272) ∷ []) ≡ gots e = gots-append e (locks (q + 272) ∷ []) ∙ append-nil (gots e) in
-    let all : gots (frames r bits).events ≡ gots e ++ g ∷ [] = ap (λ (s : Reading). gots s.events) reading ∙ gots-append (e ++ locks (q + 272) ∷ []) last.events ∙ ap (λ xs. xs ++ g ∷ []) one in
+    let all : gots (frames r bits).events ≡ gots e ++ g ∷ [] =
+    ap (λ (s : Reading). gots s.events) reading
+    ∙ gots-append (e ++ locks (q + 272) ∷ []) last.events
+    ∙ ap (λ xs. xs ++ g ∷ []) one in
     let which = told_some (gots e) g frame (sym all ∙ told) in
     let at : q + 256 + 256 - 240 ≡ q + 272 = omega arith in
     let gains : gained (frames r line).place last.place (Some g) ≡ locks (q + 272) ∷ last.events =

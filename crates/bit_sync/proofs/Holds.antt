@@ -206,7 +206,8 @@ pub lost_or_kept : (misses missed : ℕ) (odd : Bool) (lock : Option Lock) → l
     → ((nat_le misses missed ≡ true) × (lock ≡ None)) ⊎ ((nat_le misses missed ≡ false) × (lock ≡ Some (record { odd = not odd; missed = missed; held = 0 })))
 lost_or_kept misses missed odd lock e = by_test (nat_le misses missed) refl
   where
-    by_test : (t : Bool) → nat_le misses missed ≡ t → ((nat_le misses missed ≡ true) × (lock ≡ None)) ⊎ ((nat_le misses missed ≡ false) × (lock ≡ Some (record { odd = not odd; missed = missed; held = 0 })))
+    by_test : (t : Bool) → nat_le misses missed ≡ t
+        → ((nat_le misses missed ≡ true) × (lock ≡ None)) ⊎ ((nat_le misses missed ≡ false) × (lock ≡ Some (record { odd = not odd; missed = missed; held = 0 })))
     by_test true h = inl (h, e ∙ ap (λ t. if t then None else Some (record { odd = not odd; missed = missed; held = 0 })) h)
     by_test false h = inr (h, e ∙ ap (λ t. if t then None else Some (record { odd = not odd; missed = missed; held = 0 })) h)
 

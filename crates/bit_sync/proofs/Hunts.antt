@@ -191,7 +191,8 @@ hunt_on r line group h n v register hunt none =
 -- a lock is made
 pub hunt_ends : (r : Rules) (line group : List ℕ) (h n v register k : ℕ) → Hunting r line group h n v register → AreWords r.words
     → IsEarliest r.words ((register * 2 ^ n + v) / 2 ^ 256) ((register * 2 ^ n + v) % 2 ^ 272 % 2 ^ 64) n k
-    → (p : ℕ) × (h ≤ p) × (p + 272 + k ≡ length (line ++ group)) × (frames r (line ++ group) ≡ record { events = (frames r line).events ++ (lock_made r (line ++ group) p).events; place = (lock_made r (line ++ group) p).place })
+    → (p : ℕ) × (h ≤ p) × (p + 272 + k ≡ length (line ++ group))
+    × (frames r (line ++ group) ≡ record { events = (frames r line).events ++ (lock_made r (line ++ group) p).events; place = (lock_made r (line ++ group) p).place })
 hunt_ends r line group h n v register k hunt are found =
     let few : n ≤ 32 = hunt.few in
     let below : k < n = found.within in

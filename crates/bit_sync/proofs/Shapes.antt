@@ -69,7 +69,9 @@ shape_passes : (x count k : ℕ) → x < 2 ^ 64 → count ≤ 32 → k < count �
 unfolding shape_of
 shape_passes x count k fits few below shape =
     let ones : bit_at (bit_and (bit_and (bit_and x (x / 2)) (x / 4)) (x / 8)) k ≡ 1 =
-    all_ones x (x / 2) (x / 4) (x / 8) k (ap (λ n. bit_at n k) (omega arith) ∙ shaped_bit x k 0 shape (lit< tt)) (shaped_bit x k 1 shape (lit< tt)) (shaped_bit x k 2 shape (lit< tt)) (shaped_bit x k 3 shape (lit< tt)) in
+    all_ones x (x / 2) (x / 4) (x / 8) k
+    (ap (λ n. bit_at n k) (omega arith) ∙ shaped_bit x k 0 shape (lit< tt))
+    (shaped_bit x k 1 shape (lit< tt)) (shaped_bit x k 2 shape (lit< tt)) (shaped_bit x k 3 shape (lit< tt)) in
     let zeros : bit_at (bit_or (bit_or (bit_or (x / 16) (x / 32)) (x / 64)) (x / 128)) k ≡ 0 =
     all_zeros (x / 16) (x / 32) (x / 64) (x / 128) k (shaped_bit x k 4 shape (lit< tt)) (shaped_bit x k 5 shape (lit< tt)) (shaped_bit x k 6 shape (lit< tt)) (shaped_bit x k 7 shape (lit< tt)) in
     let turned : bit_at (18446744073709551615 - bit_or (bit_or (bit_or (x / 16) (x / 32)) (x / 64)) (x / 128)) k ≡ 1 =

@@ -157,7 +157,9 @@ first_lock r odd sent d n line some few =
       before = λ q from below. absurd (omega arith);
     }) in
     let step : onward r bits (hunts 0) ≡ Some (record { events = locks 272 ∷ []; place = locked 256 (eqb (header_of (drop 256 bits)) (word r.words true)) 0 }) = step_locks r bits 0 0 lock in
-    let step' : onward r bits (frames r []).place ≡ Some (record { events = locks 272 ∷ []; place = locked 256 (eqb (header_of (drop 256 bits)) (word r.words true)) 0 }) = rw (nothing_read r) step in
+    let step' : onward r bits (frames r []).place
+    ≡ Some (record { events = locks 272 ∷ []; place = locked 256 (eqb (header_of (drop 256 bits)) (word r.words true)) 0 }) =
+    rw (nothing_read r) step in
     let reading = frames_step r [] bits _ step' (omega arith) in
     let one : n / 256 ≡ 1 = omega arith in
     let which : eqb (header_of (drop 256 bits)) (word r.words true) ≡ not odd = ap (λ h. eqb h (word r.words true)) second ∙ word_test r.words (not odd) line.words in

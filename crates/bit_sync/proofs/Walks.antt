@@ -208,9 +208,12 @@ pub frames_step : (r : Rules) (bits more : List ℕ) (step : Reading) → onward
     → frames r (bits ++ more) ≡ record { events = (frames r bits).events ++ step.events; place = step.place }
 unfolding steps
 frames_step r bits more step e few =
-    let after : with_step (frames r bits) (onward r (bits ++ more) (frames r bits).place) ≡ record { events = (frames r bits).events ++ step.events; place = step.place } = ap (with_step (frames r bits)) e in
+    let after : with_step (frames r bits) (onward r (bits ++ more) (frames r bits).place)
+    ≡ record { events = (frames r bits).events ++ step.events; place = step.place } =
+    ap (with_step (frames r bits)) e in
     let end = no_more r (bits ++ more) step.place few in
-    let done : onward r (bits ++ more) (with_step (frames r bits) (onward r (bits ++ more) (frames r bits).place)).place ≡ None = ap (λ (s : Reading). onward r (bits ++ more) s.place) after ∙ end in
+    let done : onward r (bits ++ more) (with_step (frames r bits) (onward r (bits ++ more) (frames r bits).place)).place ≡ None =
+    ap (λ (s : Reading). onward r (bits ++ more) s.place) after ∙ end in
     frames_longer 1 r bits more done ∙ after
 
 -- the events of some steps begin with those before

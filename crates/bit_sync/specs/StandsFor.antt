@@ -17,7 +17,9 @@ pub record Kept : Type 0 where
 -- since hunting began; locked, it has the bits of the present frame
 abbrev pub Keeps : Option Lock → ℕ → List ℕ → Place → Type 0
 Keeps None register line (hunts h) = (h ≤ length line) × (register ≡ number (drop h line) % 2 ^ 272)
-Keeps (Some lock) register line (locked at odd missed) = (lock.odd ≡ odd) × (lock.missed ≡ missed) × (at + lock.held ≡ length line) × (register % 2 ^ lock.held ≡ number (drop at line) % 2 ^ lock.held)
+Keeps (Some lock) register line (locked at odd missed) =
+    (lock.odd ≡ odd) × (lock.missed ≡ missed) × (at + lock.held ≡ length line)
+    × (register % 2 ^ lock.held ≡ number (drop at line) % 2 ^ lock.held)
 Keeps None register line (locked at odd missed) = ⊥
 Keeps (Some lock) register line (hunts h) = ⊥
 

@@ -21,7 +21,8 @@ module _ (c : ℕ) (u v : SampleSet → ℤ) where
       → sum_from c (λ set. u set +ℤ v set) (plus p q) sets ≡ plus (sum_from c u p sets) (sum_from c v q sets)
   sum_from-plus p q [] = refl
   sum_from-plus p q (set ∷ sets) =
-      ap (λ r. sum_from c (λ s. u s +ℤ v s) r sets) (taken p q (u set) (v set) (factor c set.number)) ∙ sum_from-plus (plus p (weighed c set.number (u set))) (plus q (weighed c set.number (v set))) sets
+      ap (λ r. sum_from c (λ s. u s +ℤ v s) r sets) (taken p q (u set) (v set) (factor c set.number))
+      ∙ sum_from-plus (plus p (weighed c set.number (u set))) (plus q (weighed c set.number (v set))) sets
     where
       part : (x y a b f : ℤ) → (x +ℤ y) +ℤ (a +ℤ b) *ℤ f ≡ (x +ℤ a *ℤ f) +ℤ (y +ℤ b *ℤ f)
       part x y a b f = let one = a *ℤ f in let other = b *ℤ f in rw (+ℤ-*ℤ a b f) (omega (arith, ints))

@@ -33,7 +33,9 @@ rates_of-more rates rating station = by (rating.station == station) refl
     own r = r.station == station
 
     both : rates_of (rates ++ rating ∷ []) station ≡ rates_of rates station ++ rates_of (rating ∷ []) station
-    both = ap (map (λ (r : Rating). r.rate)) (filter-append (λ (r : Rating). r.station == station) rates (rating ∷ [])) ∙ map-append (λ (r : Rating). r.rate) (filter (λ (r : Rating). r.station == station) rates) (filter (λ (r : Rating). r.station == station) (rating ∷ []))
+    both = ap (map (λ (r : Rating). r.rate)) (filter-append (λ (r : Rating). r.station == station) rates (rating ∷ []))
+        ∙ map-append (λ (r : Rating). r.rate)
+        (filter (λ (r : Rating). r.station == station) rates) (filter (λ (r : Rating). r.station == station) (rating ∷ []))
 
     by : (b : Bool) → (rating.station == station) ≡ b
         → rates_of (rates ++ rating ∷ []) station ≡ (if b then rates_of rates station ++ rating.rate ∷ [] else rates_of rates station)

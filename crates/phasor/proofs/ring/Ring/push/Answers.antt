@@ -11,4 +11,5 @@ returns c =
     let leaves = rw (← c.self.view_is) at c.leaving-leaving.ensures in
     let all : length ring.places ≡ 20 = search rules in
     rw (← c.self.view_is, c.from-2.ensures, c.from.ensures, c.min-self-inside.ensures, follows)
-    (IsPushed-set ring.cycle ring.places ring.held ring.next some c.self.invariant.1 c.self.invariant.2 c.args.values.now c.leaving-leaving.result all (cycle_short ring.cycle c.self.invariant.0) leaves)
+    (IsPushed-set ring.cycle ring.places ring.held ring.next some c.self.invariant.1 c.self.invariant.2 c.args.values.now
+    c.leaving-leaving.result all (cycle_short ring.cycle c.self.invariant.0) leaves)

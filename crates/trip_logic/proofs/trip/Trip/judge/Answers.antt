@@ -11,7 +11,8 @@ use Rattle.trip_logic.proofs.trip.Trip.judge.Goals.{After-verdicts_of}
 
 -- what the rule stands for after the set, and its verdicts
 after : (c : After-verdicts_of) (judged : List SampleSet) → StandsFor c.args.self.now judged
-    → StandsFor (record { settings = c.self.inside.settings; window = c.push_uncounted.new.kept; runs = c.runs_after-self-inside.result; recent = c.push_back.new.self.items }) (judged ++ c.args.set.now ∷ [])
+    → StandsFor (record { settings = c.self.inside.settings; window = c.push_uncounted.new.kept; runs = c.runs_after-self-inside.result; recent = c.push_back.new.self.items })
+    (judged ++ c.args.set.now ∷ [])
     × (c.verdicts_of.result ≡ verdicts c.self.inside.settings (judged ++ c.args.set.now ∷ []) c.args.set.now.number)
 after c judged stands =
     let old : Progress = record { settings = c.self.inside.settings; window = c.self.inside.window; runs = c.self.inside.runs; recent = c.self.inside.recent.items } in
