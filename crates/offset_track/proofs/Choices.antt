@@ -1,7 +1,7 @@
 -- The first least of some elements, found one by one.
-use Rattle.std.specs.Prelude.{ℤ, int_le, int_lt, ◌&&◌, find, filter, not, Option, MatchOption, if◌then◌else◌}
-use Rattle.std.specs.List.{list_all}
-use Rattle.std.proofs.Common.{◌≡◌, ℕ, ◌≤◌, Bool, true, false, List, [], ◌∷◌, ◌++◌, Some, None, inl, inr, refl, ap, sym, ◌∙◌, arith, append_assoc}
+use Rattle.std.specs.Prelude.{ℤ, int_le, int_lt, ◌&&◌, find, filter, not, Option, is_some, MatchOption, if◌then◌else◌}
+use Rattle.std.specs.List.{list_all, list_any}
+use Rattle.std.proofs.Common.{◌≡◌, ℕ, ◌≤◌, Bool, true, false, List, [], ◌∷◌, ◌++◌, Some, None, inl, inr, refl, ap, sym, ◌∙◌, arith, append_assoc, append-nil}
 use Rattle.std.proofs.Math.Bool.{and-false}
 use Rattle.std.proofs.lemmas.Bool.{and_parts, cases_Bool}
 use Rattle.std.proofs.lemmas.Bool.Decides.{nat_tests}
@@ -121,6 +121,22 @@ IsBest-more value xs None x next none is = rw (none, is) (IsFirstLeast-one value
 IsBest-more value xs (Some least) x next least_is is = elim (cases_Bool (int_lt (value x) (value least))) [
   | inl lesser ↦ rw (is, lesser) (IsFirstLeast-lesser value xs least x least_is lesser)
   | inr greater ↦ rw (is, greater) (IsFirstLeast-stays value xs least x least_is greater)
+]
+
+-- some elements, one at the least, have a least
+first_least-some : {A : Type 0} (value : A → ℤ) (more xs : List A) (least : A) → IsFirstLeast value xs least → is_some (first_least value (xs ++ more)) ≡ true
+first_least-some value [] xs least is = rw (append-nil, first_least-found value xs least is) refl
+first_least-some value (x ∷ more) xs least is = elim (cases_Bool (int_lt (value x) (value least))) [
+  | inl lesser ↦ rw (← append_assoc xs (x ∷ []) more) (first_least-some value more (xs ++ x ∷ []) x (IsFirstLeast-lesser value xs least x is lesser))
+  | inr greater ↦ rw (← append_assoc xs (x ∷ []) more) (first_least-some value more (xs ++ x ∷ []) least (IsFirstLeast-stays value xs least x is greater))
+]
+
+-- one is chosen exactly where some element passes
+pub first_least-any : {A : Type 0} (value : A → ℤ) (passes : A → Bool) (xs : List A) → list_any passes xs ≡ is_some (first_least value (filter passes xs))
+first_least-any value passes [] = refl
+first_least-any value passes (x ∷ xs) = elim (cases_Bool (passes x)) [
+  | inl kept ↦ rw kept (sym (first_least-some value (filter passes xs) (x ∷ []) x (IsFirstLeast-one value x)))
+  | inr dropped ↦ rw dropped (first_least-any value passes xs)
 ]
 
 -- what is found in what passed a test has passed it

@@ -1,4 +1,5 @@
-ghost use Rattle.std.specs.Prelude.{◌≡◌, ◌≤◌, ◌++◌, [], ◌∷◌, List, option_map, if◌then◌else◌, ◌<◌, ◌^◌, MatchOption, int_lt, unsigned_abs};
+ghost use Rattle.std.specs.Prelude.{◌≡◌, ◌≤◌, ◌++◌, [], ◌∷◌, List, is_some, option_map, if◌then◌else◌, ◌<◌, ◌^◌, MatchOption, int_lt, unsigned_abs};
+ghost use Rattle.std.specs.List.{list_any};
 ghost use Rattle.offset_track.specs.InForce.{InForce, chosen, is_candidate, is_slow};
 ghost use Rattle.offset_track.specs.Track.{StandsFor, with_exchange};
 ghost use Rattle.pingpong.specs.Exchange.{Stamps, estimate2, round_trip};
@@ -121,6 +122,15 @@ impl Track {
         let exchange = chosen(self.kept.as_slice(), self.age, now.get())?;
         Some(Fresh { exchange, at: now })
     }
+
+    /// Whether an exchange is in force at that stamp, which is less work than to say which one.
+    pub fn is_aligned(&self, now: Ticks) -> bool
+        ensures chosen { result ≡ is_some (chosen (λ e. e) self.now.age now self.now.newest_first) }
+        ensures in_force { (offered : List Stamps) → StandsFor self.now offered
+            → result ≡ is_some (InForce (λ e. e) self.now.slow self.now.age now offered) }
+    {
+        has_candidate(self.kept.as_slice(), self.age, now.get())
+    }
 }
 
 // The first candidate with the least round trip.
@@ -134,6 +144,12 @@ fn chosen(newest_first: &[Exchange], age: u32, now: u64) -> Option<Exchange>
         }
     }
     best
+}
+
+fn has_candidate(newest_first: &[Exchange], age: u32, now: u64) -> bool
+    ensures { result ≡ list_any (is_candidate age now) newest_first.now }
+{
+    newest_first.iter().any(|e| is_candidate(e, age, now))
 }
 
 fn is_candidate(e: &Exchange, age: u32, now: u64) -> bool
