@@ -1,9 +1,9 @@
 -- The bytes that are made for a frame have the bits that are sent for it.
-use Rattle.std.proofs.Common.{◌≡◌, ◌≢◌, ℕ, zero, suc, ◌+◌, ◌-◌, ◌*◌, ◌/◌, ◌%◌, ◌<◌, ◌≤◌, Bool, true, false, List, ◌∷◌, length, get_or, set, replicate, bit_and, refl, arith, ap, sym, ◌∙◌, inl, inr, lit<, below_more, get_or-set_same, get_or-set_other, length-set}
+use Rattle.std.proofs.Common.{◌≡◌, ◌≢◌, ℕ, ◌+◌, ◌-◌, ◌*◌, ◌/◌, ◌%◌, ◌<◌, ◌≤◌, Bool, true, false, List, ◌∷◌, [], ◌++◌, length, get_or, set, replicate, bit_and, refl, arith, ap, sym, ◌∙◌, inl, inr, lit<, below_more, get_or-set_same, get_or-set_other, length-set}
 use Rattle.std.specs.Prelude.{if◌then◌else◌}
 use Rattle.std.specs.Int.{bit_at, to_be_bytes, w16}
 use Rattle.std.proofs.lemmas.Bool.{cases_lt, cases_eq}
-use Rattle.std.proofs.lemmas.List.{ext_get_or, get_or-replicate}
+use Rattle.std.proofs.lemmas.List.{ext_get_or, get_or-append_right, get_or-replicate, get_or_append_left}
 use Rattle.std.proofs.lemmas.Nat.{and_mask}
 use Rattle.std.proofs.lemmas.Nat.Bits.{bit_at-zero, bit_at-pow_other}
 use Rattle.ld_base.specs.Bits.{bit_of, byte_bit, line_bit}
@@ -26,19 +26,27 @@ pub record IsEncodedTo (n : ℕ) (words : HeaderWords) (f : Layout) (payload byt
   pub spare : (a : ℕ) → 4 ≤ a → a < 8 → IsLineByte (get_or bytes a 0) 0
   pub high : (k : ℕ) → k < n → IsLineByte (get_or bytes (8 + 2 * k) 0) (get_or payload k 0 / 16)
   pub low : (k : ℕ) → k < n → IsLineByte (get_or bytes (9 + 2 * k) 0) (get_or payload k 0 % 16)
+  pub unused : (a : ℕ) → 8 + 2 * f.channels ≤ a → a < 32 → get_or bytes a 0 ≡ 170
 
 -- the two bytes of the header
 pub header_bytes : (bytes : List ℕ) (n w : ℕ) → bytes ≡ to_be_bytes w16 n → n < 65536 → n ≡ w
     → (get_or bytes 0 0 ≡ w / 256) × (get_or bytes 1 0 ≡ w % 256)
 header_bytes bytes n w made small e = rw (made, ← e) (omega arith, omega arith)
 
+-- line bytes before the payload, of which four have been made
+abbrev start : ℕ → ℕ → ℕ → ℕ → List ℕ
+start w m c y = w ∷ m ∷ c ∷ y ∷ replicate 4 85
+
 -- a byte behind the first four
-spare_at : (w m c y a : ℕ) → 4 ≤ a → a < 8 → get_or (w ∷ m ∷ c ∷ y ∷ replicate 28 85) a 0 ≡ 85
-spare_at w m c y zero h below = absurd (omega arith)
-spare_at w m c y (suc zero) h below = absurd (omega arith)
-spare_at w m c y (suc (suc zero)) h below = absurd (omega arith)
-spare_at w m c y (suc (suc (suc zero))) h below = absurd (omega arith)
-spare_at w m c y (suc (suc (suc (suc a)))) h below = get_or-replicate 28 a 85 0 (omega arith)
+spare_at : (w m c y a : ℕ) → 4 ≤ a → a < 8 → get_or (start w m c y ++ replicate 24 170) a 0 ≡ 85
+spare_at w m c y a h below =
+    get_or_append_left (start w m c y) (replicate 24 170) 0 a below
+    ∙ get_or-append_right (w ∷ m ∷ c ∷ y ∷ []) (replicate 4 85) 4 a 0 refl h
+    ∙ get_or-replicate 4 (a - 4) 85 0 (omega arith)
+
+-- a byte of idle payload
+idle_at : (w m c y a : ℕ) → 8 ≤ a → a < 32 → get_or (start w m c y ++ replicate 24 170) a 0 ≡ 170
+idle_at w m c y a h below = get_or-append_right (start w m c y) (replicate 24 170) 8 a 0 refl h ∙ get_or-replicate 24 (a - 8) 170 0 (omega arith)
 
 -- the line byte of the yellow bit
 yellow_byte : (yellow : Bool) (byte : ℕ) → byte ≡ (if yellow then 149 else 85) → IsLineByte byte (8 * bit_of yellow)
@@ -47,7 +55,7 @@ yellow_byte false byte e = rw e (line_byte_at 0 (lit< tt))
 
 -- before the payload
 pub encoded_start : (words : HeaderWords) (f : Layout) (payload bytes : List ℕ) (w m c y : ℕ)
-    → bytes ≡ w ∷ m ∷ c ∷ y ∷ replicate 28 85
+    → bytes ≡ start w m c y ++ replicate 24 170
     → w ≡ word words f.odd / 256 → m ≡ word words f.odd % 256 → IsLineByte c f.channels → y ≡ (if f.yellow then 149 else 85)
     → IsEncodedTo 0 words f payload bytes
 encoded_start words f payload bytes w m c y e first second count yellow =
@@ -60,12 +68,21 @@ encoded_start words f payload bytes w m c y e first second count yellow =
       spare = λ a h below. rw (spare_at w m c y a h below) (line_byte_at 0 (lit< tt));
       high = λ k below. absurd (omega arith);
       low = λ k below. absurd (omega arith);
+      unused = λ a from below. idle_at w m c y a (omega arith) below;
     })
 
 -- what the two bytes of one more byte of payload keep
 kept : (bytes : List ℕ) (n x y a : ℕ) → a < 8 + 2 * n
     → get_or (set (set bytes (8 + 2 * n) x) (9 + 2 * n) y) a 0 ≡ get_or bytes a 0
 kept bytes n x y a below =
+    let ne : a ≢ 9 + 2 * n = omega arith in
+    let ne' : a ≢ 8 + 2 * n = omega arith in
+    rw (get_or-set_other, get_or-set_other)
+
+-- and behind them
+kept_behind : (bytes : List ℕ) (n x y a : ℕ) → 10 + 2 * n ≤ a
+    → get_or (set (set bytes (8 + 2 * n) x) (9 + 2 * n) y) a 0 ≡ get_or bytes a 0
+kept_behind bytes n x y a behind =
     let ne : a ≢ 9 + 2 * n = omega arith in
     let ne' : a ≢ 8 + 2 * n = omega arith in
     rw (get_or-set_other, get_or-set_other)
@@ -85,11 +102,11 @@ second_set bytes n x y within =
     rw get_or-set_same
 
 -- one byte of payload more
-pub encoded_more : (n : ℕ) (words : HeaderWords) (f : Layout) (payload bytes : List ℕ) (x y : ℕ) → n < 12
+pub encoded_more : (n : ℕ) (words : HeaderWords) (f : Layout) (payload bytes : List ℕ) (x y : ℕ) → n < f.channels → f.channels ≤ 12
     → IsEncodedTo n words f payload bytes → IsLineByte x (get_or payload n 0 / 16)
     → IsLineByte y (bit_and (get_or payload n 0) 15)
     → IsEncodedTo (n + 1) words f payload (set (set bytes (8 + 2 * n) x) (9 + 2 * n) y)
-encoded_more n words f payload bytes x y within h high low =
+encoded_more n words f payload bytes x y within few h high low =
     let long : length bytes ≡ 32 = h.long in
     let remainder : bit_and (get_or payload n 0) 15 ≡ get_or payload n 0 % 16 = and_mask (get_or payload n 0) 4 in
     record {
@@ -105,7 +122,30 @@ encoded_more n words f payload bytes x y within h high low =
       low = below_more _ _
           (λ k below. rw (kept bytes n x y (9 + 2 * k) (omega arith)) (h.low k below))
           (rw (second_set bytes n x y (omega arith)) (rw remainder at low));
+      unused = λ a from below. rw (kept_behind bytes n x y a (omega arith)) (h.unused a from below);
     }
+
+-- where the payload is idle behind the channels, the rest of it stands there
+pub encoded_rest : (words : HeaderWords) (f : Layout) (payload bytes : List ℕ)
+    → ((k : ℕ) → f.channels ≤ k → k < 12 → get_or payload k 0 ≡ 255)
+    → IsEncodedTo f.channels words f payload bytes → IsEncodedTo 12 words f payload bytes
+encoded_rest words f payload bytes idle h = record {
+  long = h.long;
+  first = h.first;
+  second = h.second;
+  count = h.count;
+  yellow = h.yellow;
+  spare = h.spare;
+  high = λ k below. elim (cases_lt k f.channels) [
+    | inl within ↦ h.high k within
+    | inr past ↦ rw (idle k past below, h.unused (8 + 2 * k) (omega arith) (omega arith)) (line_byte_at 15 (lit< tt))
+  ];
+  low = λ k below. elim (cases_lt k f.channels) [
+    | inl within ↦ h.low k within
+    | inr past ↦ rw (idle k past below, h.unused (9 + 2 * k) (omega arith) (omega arith)) (line_byte_at 15 (lit< tt))
+  ];
+  unused = h.unused;
+}
 
 -- each byte behind the header is a line byte
 encoded_line : (words : HeaderWords) (f : Layout) (payload bytes : List ℕ) → IsEncodedTo 12 words f payload bytes → (a : ℕ)

@@ -1,5 +1,6 @@
 pub mod Decoded
 pub mod Encoded
+pub mod Filled
 pub mod Lines
 pub mod Numbers
 pub mod Pairs

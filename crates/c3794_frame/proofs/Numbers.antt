@@ -103,7 +103,9 @@ number-stretch bits p n k are whole =
     sym (append_assoc front middle back ∙ ap (λ t. front ++ t) (take-append-drop n (drop p bits)) ∙ take-append-drop p bits) in
     let low : number back < 2 ^ k = rw rest at (number-lt back (are_drop n (drop p bits) (are_drop p bits are))) in
     let high : number middle < 2 ^ n = rw long at (number-lt middle (are_take n (drop p bits) (are_drop p bits are))) in
-    let all : number bits ≡ number (front ++ middle) * 2 ^ k + number back = ap number parts ∙ number-append (front ++ middle) back ∙ ap (λ j. number (front ++ middle) * 2 ^ j + number back) rest in
+    let all : number bits ≡ number (front ++ middle) * 2 ^ k + number back =
+    ap number parts ∙ number-append (front ++ middle) back
+    ∙ ap (λ j. number (front ++ middle) * 2 ^ j + number back) rest in
     let some : number (front ++ middle) ≡ number front * 2 ^ n + number middle = number-append front middle ∙ ap (λ j. number front * 2 ^ j + number middle) long in
     sym (ap (λ x. x / 2 ^ k % 2 ^ n) all ∙ ap (λ x. x % 2 ^ n) (div-mul-add (number (front ++ middle)) (2 ^ k) (number back) low ∙ some) ∙ mod-mul-add (number front) (2 ^ n) (number middle) high)
 

@@ -90,7 +90,12 @@ window b t facts within next low high =
               | inr h13 ↦ elim (cases_lt t 16) [
                 | inl h ↦ absurd (omega (arith, low t (omega arith) (omega arith), facts.ones t (omega arith) (omega arith)))
                 | inr h16 ↦ elim (cases_lt t 255) [
-                  | inl h ↦ absurd (omega (arith, low (16 + 2 * ((t - 15) / 2)) (omega arith) (omega arith), low (17 + 2 * ((t - 15) / 2)) (omega arith) (omega arith), facts.pairs ((t - 15) / 2) (omega arith)))
+                  | inl h ↦ absurd (omega (
+                    arith,
+                    low (16 + 2 * ((t - 15) / 2)) (omega arith) (omega arith),
+                    low (17 + 2 * ((t - 15) / 2)) (omega arith) (omega arith),
+                    facts.pairs ((t - 15) / 2) (omega arith),
+                  ))
                   | inr h255 ↦ absurd (omega (arith, low 256 (omega arith) (omega arith), next (omega arith)))
                 ]
               ]

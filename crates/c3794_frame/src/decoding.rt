@@ -1,4 +1,4 @@
-ghost use Rattle.std.specs.Prelude.{◌≡◌, ◌≤◌, None, Ok, IfOk, length};
+ghost use Rattle.std.specs.Prelude.{◌≡◌, ◌≤◌, ◌<◌, ℕ, None, Ok, IfOk, length, slice_index};
 ghost use Rattle.c3794_frame.specs.Numbers.{bits_of};
 ghost use Rattle.ld_base.specs.Words.{AreWords};
 ghost use Rattle.c3794_frame.specs.Frame.{IsFrame};
@@ -52,16 +52,16 @@ fn read(bits: &[u8; 32], channels: u8, words: &Words) -> Result<Frame, FrameFaul
         return Err(FrameFault::Count(count));
     }
     let yellow = nibble(bits[3]) & 8 != 0;
-    let payload = payload_of(bits, channels);
-    Ok(Frame::new(odd, yellow, &payload[..channels as usize]))
+    Ok(Frame::of(odd, channels, yellow, payload_of(bits, channels)))
 }
 
-// The bytes of payload of so many channels, and zeros behind them. They say nothing where a pair is broken.
+// The bytes of payload of so many channels, and 0xFF behind them. They say nothing where a pair is broken.
 fn payload_of(bits: &[u8; 32], channels: u8) -> [u8; 12]
     requires { channels ≤ 12 }
-    ensures { broken_pair (bits_of bits.now) ≡ None → ArePayload channels (bits_of bits.now) result }
+    ensures payload { broken_pair (bits_of bits.now) ≡ None → ArePayload channels (bits_of bits.now) result }
+    ensures unused { (k : ℕ) → channels ≤ k → k < 12 → slice_index result k ≡ 255 }
 {
-    let mut payload = [0; 12];
+    let mut payload = [0xFF; 12];
     for k in 0..channels as usize {
         payload[k] = nibble(bits[8 + 2 * k]) << 4 | nibble(bits[9 + 2 * k]);
     }

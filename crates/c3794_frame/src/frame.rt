@@ -49,6 +49,20 @@ impl Frame {
         }
     }
 
+    /// A frame of so many channels with these bytes, of which those past the channels are 0xFF.
+    pub(crate) fn of(odd: bool, channels: u8, yellow: bool, payload: [u8; MOST_CHANNELS]) -> Frame
+        requires channels { (1 ≤ channels) × (channels ≤ 12) }
+        requires unused { (k : ℕ) → channels ≤ k → k < 12 → slice_index payload k ≡ 255 }
+        ensures { result ≡ record { odd = odd; channels = channels; yellow = yellow; payload = payload } }
+    {
+        Frame {
+            odd,
+            channels,
+            yellow,
+            payload,
+        }
+    }
+
     /// Whether it begins with word B.
     pub fn odd(&self) -> bool
         ensures { result ≡ self.now.odd }

@@ -1,4 +1,5 @@
-ghost use Rattle.std.specs.Prelude.{◌≡◌, map};
+ghost use Rattle.std.specs.Prelude.{◌≡◌, Bool, map};
+ghost use Rattle.channel_alarm.specs.declared.alarm.Alarm.{Alarm};
 ghost use Rattle.channel_alarm.specs.Alarms.{all, all_off, is_on, stands, standing, turns};
 
 use crate::{Alarm, Facts, Turn};
@@ -52,6 +53,19 @@ impl Alarms {
         ensures after { self.new ≡ standing self.old.silent (is_on self.old.silent f.now) }
     {
         let on = states(f, self.silent);
+        // Nearly always nothing changes.
+        if on == self.on {
+            return ArrayVec::new();
+        }
+        self.turn(on)
+    }
+
+    // Turns the alarms to these states.
+    #[cold]
+    fn turn(&mut self, on: [bool; 5]) -> ArrayVec<Turn, 5>
+        ensures turns { (new : Alarm → Bool) → on ≡ map new all → result.items ≡ turns (stands self.old) new }
+        ensures after { self.new ≡ record { silent = self.old.silent; on = on } }
+    {
         let mut changed = ArrayVec::new();
         for k in 0..ALL.len() {
             if on[k] != self.on[k] {

@@ -108,7 +108,9 @@ unsent-none n size slots some sized =
       | inr last ↦
           let slot : Slot (List ℕ) = record { loaded = Some last.bytes; yellow = last.yellow } in
           let long : length last.bytes ≡ size =
-          at-middle (λ s. ForSome s.loaded (λ bytes. length bytes ≡ size)) last.before slot last.after (subst (AllByRecursion (λ s. ForSome s.loaded (λ bytes. length bytes ≡ size))) last.is sized) last.bytes refl in
+          at-middle (λ s. ForSome s.loaded (λ bytes. length bytes ≡ size))
+          last.before slot last.after
+          (subst (AllByRecursion (λ s. ForSome s.loaded (λ bytes. length bytes ≡ size))) last.is sized) last.bytes refl in
           let left : unsent n slots ≡ drop (n * suc (length last.after)) last.bytes = ap (unsent n) last.is ∙ loaded-left n last.before last.after last.bytes last.yellow last.none in
           let room = div_ceil-least size n (suc (length last.after)) some in
           let gone = drop-none (n * suc (length last.after)) last.bytes in

@@ -107,7 +107,9 @@ module _ {M F : Type 0} (layout : Layout M F) (spell : M → List ℕ) (Fine : M
             parts
             ∙ ap (λ xs. told layout (cells xs ++ (cells idle ++ line))) all
             ∙ hunts.first m (cells idle ++ line) fine
-            ∙ ap (λ xs. Ok m ∷ xs) (idle-bytes (n - length next) line ∙ ap (λ xs. told layout (line_from spell n odd xs slots)) none ∙ tells.free odd (subst (λ xs. AreInTurn n xs (spelled_slots spell slots)) none turn))
+            ∙ ap (λ xs. Ok m ∷ xs) (idle-bytes (n - length next) line
+            ∙ ap (λ xs. told layout (line_from spell n odd xs slots)) none
+            ∙ tells.free odd (subst (λ xs. AreInTurn n xs (spelled_slots spell slots)) none turn))
             ∙ ap (λ xs. xs ++ heard spell n slots) (sym (completed-now n (length slots) left m last))
       ]
 

@@ -1,7 +1,8 @@
 -- Slots, one more at the end of them, and what they leave.
-use Rattle.std.proofs.Common.{◌≡◌, ℕ, zero, suc, ◌+◌, ◌-◌, ◌%◌, ◌≤◌, Bool, true, false, not, eqb, List, [], ◌∷◌, ◌++◌, length, take, drop, map, fold, replicate, Option, None, IsSome, unwrap_or, refl, arith, sym, ap, ◌∙◌, append_assoc, length-append}
+use Rattle.std.specs.Prelude.{min}
+use Rattle.std.proofs.Common.{◌≡◌, ℕ, zero, suc, ◌+◌, ◌-◌, ◌%◌, ◌≤◌, Bool, true, false, not, eqb, List, [], ◌∷◌, ◌++◌, length, take, drop, map, fold, replicate, Option, Some, None, IsSome, unwrap_or, refl, arith, sym, ap, ◌∙◌, append_assoc, length-append}
 use Rattle.std.proofs.Math.Seq.{take-append-add}
-use Rattle.std.proofs.lemmas.List.{length-replicate, length-take, map-append, replicate-append-replicate, take-replicate}
+use Rattle.std.proofs.lemmas.List.{drop-append-le, drop-drop, drop_min, length-drop, length-replicate, length-take, length-take-le, map-append, nil_from_length, replicate-append-replicate, take-append-drop, take-replicate}
 use Rattle.std.proofs.lemmas.Bool.Decides.{nat_tests}
 use Rattle.std.proofs.lemmas.List.Sums.{fold-append}
 use Rattle.ld_base.specs.Words.{HeaderWords}
@@ -9,6 +10,17 @@ use Rattle.c3794_frame.specs.Frame.{filled}
 use Rattle.c3794_frame.specs.FrameOf.{Layout, frame_bits}
 use Rattle.payload_map.specs.Outlet.{Sender, StandsFor}
 use Rattle.payload_map.specs.Sent.{AreInTurn, Slot, left_after, unsent, frame_at, frames_from, frames, sent}
+
+-- how much is left of a message of 36 bytes, which stands in front of others
+pub length-left : (before : ℕ) (message : List ℕ) → 36 ≤ length message → length (drop before (take 36 message)) ≡ 36 - before
+length-left before message long = length-drop before (take 36 message) ∙ ap (λ k. k - before) (length-take-le 36 message long)
+
+-- some bytes later it is what lies behind those
+pub left-later : (before n : ℕ) (message : List ℕ) → 36 ≤ length message
+    → drop (min (before + n) 36) (take 36 message) ≡ drop n (drop before (take 36 message))
+left-later before n message long =
+    let size : 36 ≡ length (take 36 message) = sym (length-take-le 36 message long) in
+    ap (λ k. drop (min (before + n) k) (take 36 message)) size ∙ drop_min (before + n) (take 36 message) ∙ sym (drop-drop n before (take 36 message))
 
 -- a header word after so many slots
 turned : Bool → ℕ → Bool
@@ -46,6 +58,23 @@ take-filled n bytes few most =
     ∙ take-append-add bytes (replicate (12 - length bytes) 255) (n - length bytes)
     ∙ ap (λ xs. bytes ++ xs) (take-replicate (n - length bytes) (12 - length bytes) 255 (omega arith))
 
+-- the first of joined lists
+take-joined : (n : ℕ) (xs ys : List ℕ) → take n (xs ++ ys) ≡ take n xs ++ take (n - length xs) ys
+take-joined zero xs ys = let none : 0 - length xs ≡ 0 = omega arith in sym (ap (λ k. take k ys) none)
+take-joined (suc n) [] ys = let all : suc n - 0 ≡ suc n = omega arith in sym (ap (λ k. take k ys) all)
+take-joined (suc n) (x ∷ xs) ys =
+    let rest : n - length xs ≡ suc n - suc (length xs) = omega arith in
+    ap (λ zs. x ∷ zs) (take-joined n xs ys) ∙ ap (λ k. x ∷ take n xs ++ take k ys) rest
+
+-- the first of some bytes and of idle ones behind them
+take-idle : (idle n : ℕ) (left : List ℕ) → n ≤ idle → n ≤ 12 → take n (left ++ replicate idle 255) ≡ take n (filled (take n left))
+take-idle idle n left within most =
+    let few : length (take n left) ≤ n = omega (arith, length-take n left) in
+    let rest : n - length left ≡ n - length (take n left) = omega (arith, length-take n left) in
+    take-joined n left (replicate idle 255)
+    ∙ ap (λ xs. take n left ++ xs) (take-replicate (n - length left) idle 255 (omega arith) ∙ ap (λ k. replicate k 255) rest)
+    ∙ sym (take-filled n (take n left) few most)
+
 -- are filled up to the same
 filled-take : (n : ℕ) (bytes : List ℕ) → length bytes ≤ n → n ≤ 12 → (length (take n (filled bytes)) ≡ n) × (filled (take n (filled bytes)) ≡ filled bytes)
 filled-take n bytes few most =
@@ -68,15 +97,24 @@ abbrev pub frame_with : Bool → Bool → ℕ → List ℕ → Layout
 frame_with odd yellow channels payload = record { odd = odd; channels = channels; yellow = yellow; payload = payload }
 
 -- the frame that is made of the next bytes
-pub frame-made : (n : ℕ) (left payload : List ℕ) (odd yellow : Bool) (f : Layout) → n ≤ 12 → payload ≡ filled (take n left)
-    → f ≡ frame_with odd yellow (length (take n payload)) (filled (take n payload)) → f ≡ frame_with odd yellow n (filled (take n left))
-frame-made n left payload odd yellow f most made is =
+pub frame-made : (n : ℕ) (left bytes : List ℕ) (odd yellow : Bool) → n ≤ 12 → bytes ≡ take n (filled (take n left))
+    → frame_with odd yellow (length bytes) (filled bytes) ≡ frame_with odd yellow n (filled (take n left))
+frame-made n left bytes odd yellow most made =
     let few : length (take n left) ≤ n = omega (arith, length-take n left) in
     let same = filled-take n (take n left) few most in
-    is
-    ∙ ap (λ xs. frame_with odd yellow (length (take n xs)) (filled (take n xs))) made
+    ap (λ xs. frame_with odd yellow (length xs) (filled xs)) made
     ∙ ap (λ k. frame_with odd yellow k (filled (take n (filled (take n left))))) same.0
     ∙ ap (frame_with odd yellow n) same.1
+
+-- the next bytes are those of what is left, and idle ones behind them
+pub next-bytes : (n before : ℕ) (message : List ℕ) → n ≤ 12 → before ≤ 36 → length message ≡ 48 → drop 36 message ≡ replicate 12 255
+    → take n (drop before message) ≡ take n (filled (take n (drop before (take 36 message))))
+next-bytes n before message most within size idle =
+    let left : List ℕ = drop before (take 36 message) in
+    let whole : length (take 36 message) ≡ 36 = length-take-le 36 message (omega arith) in
+    let parts : drop before message ≡ left ++ replicate 12 255 =
+    ap (drop before) (sym (take-append-drop 36 message)) ∙ drop-append-le before (take 36 message) (drop 36 message) (omega arith) ∙ ap (λ xs. left ++ xs) idle in
+    ap (take n) parts ∙ take-idle 12 n left most most
 
 -- one slot more adds its frame
 pub sent-more : (n : ℕ) (words : HeaderWords) (slots : List (Slot (List ℕ))) (loaded : Option (List ℕ)) (sender : Sender) (yellow : Bool)
@@ -101,6 +139,25 @@ pub in_turn-more : (n : ℕ) (left : List ℕ) (slots : List (Slot (List ℕ))) 
     → (IsSome slot.loaded → fold (left_after n) left slots ≡ []) → AreInTurn n left (slots ++ slot ∷ [])
 in_turn-more n left [] slot turn free = (free, tt)
 in_turn-more n left (first ∷ slots) slot turn free = (turn.0, in_turn-more n (left_after n left first) slots slot turn.1 free)
+
+-- nothing is in flight where a message is loaded
+free-loaded : (n : ℕ) (slots : List (Slot (List ℕ))) (loaded : Option (List ℕ)) → (IsSome loaded → unsent n slots ≡ [])
+    → unwrap_or loaded (unsent n slots) ≡ [] → unsent n slots ≡ []
+free-loaded n slots None free none = none
+free-loaded n slots (Some bytes) free none = free refl
+
+-- a sender that had nothing left, after a load
+pub stands-loaded : (n : ℕ) (words : HeaderWords) (slots : List (Slot (List ℕ))) (loaded : Option (List ℕ)) (sender : Sender) (bytes left : List ℕ)
+    → StandsFor sender n words slots loaded → length sender.left ≤ 0 → left ≡ bytes
+    → StandsFor (record { channels = sender.channels; words = sender.words; odd = sender.odd; left = left }) n words slots (Some bytes)
+stands-loaded n words slots loaded sender bytes left h none e = record {
+  channels = h.channels;
+  words = h.words;
+  odd = h.odd;
+  left = e;
+  in_turn = h.in_turn;
+  free = λ some. free-loaded n slots loaded h.free (sym h.left ∙ nil_from_length sender.left (omega (arith, none)));
+}
 
 -- a sender after one slot more
 pub stands-more : (n : ℕ) (words : HeaderWords) (slots : List (Slot (List ℕ))) (loaded : Option (List ℕ)) (sender : Sender) (yellow : Bool) (left : List ℕ)

@@ -1,14 +1,15 @@
 ghost use Rattle.std.specs.Prelude.{◌≡◌, ◌≤◌, ◌<◌, ◌↔◌, ℕ, List, [], ◌∷◌, ◌++◌, length, take, drop, IsTrue, IsErr, OnOk, OnErr, Option, Some, None};
 ghost use Rattle.ld_base.specs.Words.{HeaderWords};
-ghost use Rattle.c3794_frame.specs.Frame.{filled};
 ghost use Rattle.c3794_frame.specs.Numbers.{bits_of};
 ghost use Rattle.payload_map.specs.Outlet.{StandsFor};
 ghost use Rattle.payload_map.specs.Sent.{Slot, sent};
 
-use arrayvec::ArrayVec;
-use c3794_frame::{Frame, encode};
+use c3794_frame::encode_bytes;
 use ld_base::Words;
 use std::marker::Model;
+
+// The bytes of a message.
+const MESSAGE_BYTES: usize = 36;
 
 /// A message is in flight, so no other can be loaded.
 #[derive(Clone, Copy, Debug, PartialEq, Eq)]
@@ -21,18 +22,20 @@ pub struct Outlet {
     channels: u8,
     words: Words,
     odd: bool,
-    left: ArrayVec<u8, 36>,
+    // The last message that was loaded with twelve idle bytes behind it, and how many of its bytes are sent.
+    message: [u8; 48],
+    sent: usize,
 }
 
 impl Model for Outlet {
-    ghost use Rattle.std.specs.Prelude.{◌≤◌};
+    ghost use Rattle.std.specs.Prelude.{◌≡◌, ◌≤◌, drop, length, replicate, take};
     ghost use Rattle.payload_map.specs.Outlet.{Sender};
 
     ghost Value = { Sender };
 
-    ghost view = { λ o. record { channels = o.channels; words = o.words; odd = o.odd; left = o.left.items } };
+    ghost view = { λ o. record { channels = o.channels; words = o.words; odd = o.odd; left = drop o.sent (take 36 o.message) } };
 
-    ghost invariant = { λ o. (1 ≤ o.channels) × (o.channels ≤ 12) };
+    ghost invariant = { λ o. (1 ≤ o.channels) × (o.channels ≤ 12) × (o.sent ≤ 36) × (length o.message ≡ 48) × (drop 36 o.message ≡ replicate 12 255) };
 }
 
 impl Outlet {
@@ -45,7 +48,8 @@ impl Outlet {
             channels,
             words,
             odd: false,
-            left: ArrayVec::new(),
+            message: [0xFF; 48],
+            sent: MESSAGE_BYTES,
         }
     }
 
@@ -53,7 +57,7 @@ impl Outlet {
     pub fn in_flight(&self) -> bool
         ensures { IsTrue result ↔ (0 < length self.now.left) }
     {
-        !self.left.is_empty()
+        self.sent < MESSAGE_BYTES
     }
 
     /// Loads the bytes of a message, the first of which goes with the next slot. `Busy` exactly where a message is in
@@ -64,21 +68,11 @@ impl Outlet {
         ensures stands { OnOk result ((channels : ℕ) (words : HeaderWords) (slots : List (Slot (List ℕ))) (loaded : Option (List ℕ))
             → StandsFor self.old channels words slots loaded → StandsFor self.new channels words slots (Some bytes)) }
     {
-        self.put(&bytes)
-    }
-
-    // The same of any message that is no longer.
-    fn put(&mut self, bytes: &[u8]) -> Result<(), Busy>
-        requires { length bytes.now ≤ 36 }
-        ensures busy { IsErr result ↔ (0 < length self.old.left) }
-        ensures same { OnErr result (self.new ≡ self.old) }
-        ensures stands { OnOk result ((channels : ℕ) (words : HeaderWords) (slots : List (Slot (List ℕ))) (loaded : Option (List ℕ))
-            → StandsFor self.old channels words slots loaded → StandsFor self.new channels words slots (Some bytes.now)) }
-    {
         if self.in_flight() {
             return Err(Busy);
         }
-        let _ = self.left.try_extend_from_slice(bytes);
+        self.message[..MESSAGE_BYTES].copy_from_slice(&bytes);
+        self.sent = 0;
         Ok(())
     }
 
@@ -92,22 +86,11 @@ impl Outlet {
             → StandsFor self.new channels words (slots ++ record { loaded = loaded; yellow = yellow } ∷ []) None }
     {
         let channels = usize::from(self.channels);
-        let payload = next_bytes(&mut self.left, channels);
-        let frame = Frame::new(self.odd, yellow, &payload[..channels]);
+        let words = self.words;
+        let next = &self.message[self.sent..self.sent + channels];
+        let frame = encode_bytes(self.odd, yellow, next, &words);
+        self.sent = (self.sent + channels).min(MESSAGE_BYTES);
         self.odd = !self.odd;
-        encode(&frame, &self.words)
+        frame
     }
-}
-
-// Takes the next bytes that are left, one a channel, and fills them up with 0xFF.
-fn next_bytes(left: &mut ArrayVec<u8, 36>, channels: usize) -> [u8; 12]
-    requires { channels ≤ 12 }
-    ensures payload { result ≡ filled (take channels left.old.items) }
-    ensures left { left.new.items ≡ drop channels left.old.items }
-{
-    let mut payload = [0xFF; 12];
-    let count = left.len().min(channels);
-    payload[..count].copy_from_slice(&left[..count]);
-    left.drain(..count);
-    payload
 }

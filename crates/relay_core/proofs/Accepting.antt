@@ -53,7 +53,9 @@ accepted_if me peer accepted at (Some m) = accepted_of me peer accepted (record 
 pub Accepted-push : (f : Fields) (me peer : ℕ) (log : List Call) (call : Call) (m : Option Contents) → added (Messages f peer) log (call ∷ []) ≡ option_to_list m
     → Accepted f me peer (log ++ call ∷ []) ≡ Accepted f me peer log ++ accepted_if me peer (Accepted f me peer log) (now (log ++ call ∷ [])) m
 Accepted-push f me peer log call None is =
-    ap (accepted_among me peer) (Completed-push f peer log call ∙ ap (λ ms. Completed f peer log ++ map (λ m. record { message = m; at = now (log ++ call ∷ []) }) ms) is ∙ append-nil (Completed f peer log))
+    ap (accepted_among me peer) (Completed-push f peer log call
+    ∙ ap (λ ms. Completed f peer log ++ map (λ m. record { message = m; at = now (log ++ call ∷ []) }) ms) is
+    ∙ append-nil (Completed f peer log))
     ∙ sym (append-nil (Accepted f me peer log))
 Accepted-push f me peer log call (Some m) is =
     ap (accepted_among me peer) (Completed-push f peer log call ∙ ap (λ ms. Completed f peer log ++ map (λ m. record { message = m; at = now (log ++ call ∷ []) }) ms) is)

@@ -1,6 +1,6 @@
 -- When a message begins.
-use Rattle.std.proofs.Common.{◌≡◌, ℕ, ◌+◌, ◌≤◌, ◌<◌, true, false, leb, ◌&&◌, cond, [], ◌∷◌, List, length, reverse, slice_get, Some, None, arith, sym, ap, ◌∙◌, subst}
-use Rattle.std.proofs.lemmas.Bool.{false_from_ne_true, le-leb}
+use Rattle.std.proofs.Common.{◌≡◌, ℕ, ◌+◌, ◌≤◌, ◌<◌, Bool, Option, true, false, leb, ◌&&◌, cond, [], ◌∷◌, List, length, reverse, slice_get, Some, None, arith, sym, ap, ◌∙◌, subst}
+use Rattle.std.proofs.lemmas.Bool.{false_from_ne_true}
 use Rattle.std.proofs.lemmas.List.{append-nil, nil_from_length, reverse-append}
 use Rattle.ld_base.specs.Message.{Contents}
 use Rattle.ld_base.specs.declared.fields.Fields.{Fields}
@@ -8,36 +8,67 @@ use Rattle.relay_message.specs.MessageOf.{spelled}
 use Rattle.payload_map.specs.Messages.{CanBeSent, relay_slots}
 use Rattle.payload_map.specs.Outlet as outlet
 use Rattle.payload_map.specs.Sent.{Slot, unsent}
+use Rattle.sample_store.specs.declared.ring.Numbered.{Numbered}
 use Rattle.relay_core.specs.Line.{rules_of}
-use Rattle.relay_core.specs.Sent.{begun_in, is_free, number_behind}
-use Rattle.relay_core.specs.Talks.{Begins, Talks}
+use Rattle.relay_core.specs.Sent.{begins, begun_in, can_begin, is_free, number_behind}
+use Rattle.relay_core.specs.Talks.{Begins, Speaks, Talks}
+use Rattle.relay_core.specs.declared.talker.Spoken.{Spoken}
 use Rattle.relay_core.specs.declared.talker.Talker.{Talker}
 use Rattle.relay_core.proofs.Slots.{unsent-is_free}
 
--- none begins where one is in flight
-pub Begins-busy : (f : Fields) (t : Talker) (slots : List (Slot Contents)) (m : Contents) → Talks f t slots → 0 < length t.outlet.left → Begins f t slots (Some m) None
-Begins-busy f t slots m talks busy =
+-- one is in flight where some of it is left
+free-busy : (f : Fields) (t : Talker) (slots : List (Slot Contents)) → Talks f t slots → 0 < length t.outlet.left → is_free f.channels slots ≡ false
+free-busy f t slots talks busy =
     let free = unsent-is_free f.channels slots talks.channels in
-    let not_free : is_free f.channels slots ≡ false = false_from_ne_true _ (λ e. omega (arith, busy, ap length (talks.outlet.left ∙ free.1 e))) in
-    record {
-      is = sym (ap (λ b. cond (b && leb (number_behind (slice_get (reverse (begun_in slots)) 0)) m.number) (Some m) None) not_free);
-      sendable = λ m e. absurd (cc);
-      outlet = talks.outlet;
-      next = talks.next ∙ ap (λ ms. number_behind (slice_get (reverse ms) 0)) (sym (append-nil (begun_in slots)));
-    }
+    false_from_ne_true _ (λ e. omega (arith, busy, ap length (talks.outlet.left ∙ free.1 e)))
 
--- one begins where nothing is left and its number is high enough
-pub Begins-loaded : (f : Fields) (old new : Talker) (slots : List (Slot Contents)) (m : Contents) → Talks f old slots → length old.outlet.left ≤ 0 → old.next ≤ m.number
+-- and none where nothing is left
+free-idle : (f : Fields) (t : Talker) (slots : List (Slot Contents)) → Talks f t slots → length t.outlet.left ≤ 0 → is_free f.channels slots ≡ true
+free-idle f t slots talks idle =
+    let none : length (unsent f.channels (relay_slots slots)) ≤ 0 = subst (λ left. length left ≤ 0) talks.outlet.left idle in
+    (unsent-is_free f.channels slots talks.channels).0 (nil_from_length _ (omega arith))
+
+-- whether one can begin, where one is in flight
+pub can_begin-busy : (f : Fields) (t : Talker) (slots : List (Slot Contents)) (number : ℕ) → Talks f t slots → 0 < length t.outlet.left
+    → false ≡ can_begin f.channels slots number
+can_begin-busy f t slots number talks busy =
+    sym (ap (λ b. b && leb (number_behind (slice_get (reverse (begun_in slots)) 0)) number) (free-busy f t slots talks busy))
+
+-- and where none is
+pub can_begin-idle : (f : Fields) (t : Talker) (slots : List (Slot Contents)) (number : ℕ) → Talks f t slots → length t.outlet.left ≤ 0
+    → leb t.next number ≡ can_begin f.channels slots number
+can_begin-idle f t slots number talks idle =
+    ap (λ next. leb next number) talks.next
+    ∙ sym (ap (λ b. b && leb (number_behind (slice_get (reverse (begun_in slots)) 0)) number) (free-idle f t slots talks idle))
+
+-- none begins where it can't
+pub Begins-not : (f : Fields) (t : Talker) (slots : List (Slot Contents)) (m : Contents) → Talks f t slots → can_begin f.channels slots m.number ≡ false
+    → Begins f t slots (Some m) None
+Begins-not f t slots m talks can = record {
+  is = sym (ap (λ b. cond b (Some m) None) can);
+  sendable = λ m e. absurd (cc);
+  outlet = talks.outlet;
+  next = talks.next ∙ ap (λ ms. number_behind (slice_get (reverse ms) 0)) (sym (append-nil (begun_in slots)));
+}
+
+-- one begins where it can
+pub Begins-loaded : (f : Fields) (old new : Talker) (slots : List (Slot Contents)) (m : Contents) → Talks f old slots → can_begin f.channels slots m.number ≡ true
     → CanBeSent m → outlet.StandsFor new.outlet f.channels (rules_of f).words (relay_slots slots) (Some (spelled m)) → new.next ≡ m.number + 1
     → Begins f new slots (Some m) (Some m)
-Begins-loaded f old new slots m talks idle above sendable loaded next =
-    let behind : ℕ = number_behind (slice_get (reverse (begun_in slots)) 0) in
-    let none : length (unsent f.channels (relay_slots slots)) ≤ 0 = subst (λ left. length left ≤ 0) talks.outlet.left idle in
-    let free : is_free f.channels slots ≡ true = (unsent-is_free f.channels slots talks.channels).0 (nil_from_length _ (omega arith)) in
-    let over : leb behind m.number ≡ true = le-leb behind m.number (subst (λ n. n ≤ m.number) talks.next above) in
-    record {
-      is = sym (ap (λ b. cond (b && leb behind m.number) (Some m) None) free ∙ ap (λ b. cond b (Some m) None) over);
-      sendable = λ other e. subst CanBeSent (cc) sendable;
-      outlet = loaded;
-      next = next ∙ ap (λ ms. number_behind (slice_get ms 0)) (sym (reverse-append (begun_in slots) (m ∷ [])));
-    }
+Begins-loaded f old new slots m talks can sendable loaded next = record {
+  is = sym (ap (λ b. cond b (Some m) None) can);
+  sendable = λ other e. subst CanBeSent (cc) sendable;
+  outlet = loaded;
+  next = next ∙ ap (λ ms. number_behind (slice_get ms 0)) (sym (reverse-append (begun_in slots) (m ∷ [])));
+}
+
+-- a message that can't begin need not be made
+pub begins-ready : (channels : ℕ) (slots : List (Slot Contents)) (message : Numbered → Contents) (sample : Numbered) → (message sample).number ≡ sample.number
+    → can_begin channels slots sample.number ≡ false → None ≡ begins channels slots (Some (message sample))
+begins-ready channels slots message sample same can =
+    sym (ap (λ number. cond (can_begin channels slots number) (Some (message sample)) None) same ∙ ap (λ b. cond b (Some (message sample)) None) can)
+
+-- what is said of a message that is ready holds of another that begins where this one does
+pub Speaks-ready : (f : Fields) (t : Talker) (slots : List (Slot Contents)) (ready other : Option Contents) (yellow : Bool) (spoken : Spoken)
+    → begins f.channels slots ready ≡ begins f.channels slots other → Speaks f t slots ready yellow spoken → Speaks f t slots other yellow spoken
+Speaks-ready f t slots ready other yellow spoken same speaks = record { begun = speaks.begun ∙ same; talks = speaks.talks; bits = speaks.bits }

@@ -57,7 +57,8 @@ record IsHeard (r : Receipt) : Type 0 where
   sent : r.message.sent < 2 ^ 48
   came : r.at < 2 ^ 48
 
-completed-heard : (f : Fields) (peer : ℕ) (before : List Call) (call : Call) → (1 ≤ f.channels) × (f.channels ≤ 12) → AreCalls (before ++ call ∷ []) → All IsHeard (completed_by f peer before call)
+completed-heard : (f : Fields) (peer : ℕ) (before : List Call) (call : Call) → (1 ≤ f.channels) × (f.channels ≤ 12)
+    → AreCalls (before ++ call ∷ []) → All IsHeard (completed_by f peer before call)
 completed-heard f peer before call few calls =
     let log = before ++ call ∷ [] in
     let early = now-until log calls in
@@ -147,7 +148,9 @@ pub record IsOwn (me peer : ℕ) (m : Contents) : Type 0 where
   pub addressed : is_addressed me peer m ≡ true
 
 pub ready-own : (f : Fields) (me peer : ℕ) (before : List Call) (at : ℕ) → AreFit f me peer → AreCalls before → at ≤ last_stamp → ForSome (ready f me peer before at) (IsOwn me peer)
-ready-own f me peer before at fit calls early = go (Newest f me before) (All-last FitsSample (Taken f.spacing (Offers f me before)) (Taken-fit f.spacing (Offers f me before) fit.spacing (Offers-fit f me before calls)))
+ready-own f me peer before at fit calls early =
+    go (Newest f me before) (All-last FitsSample (Taken f.spacing (Offers f me before))
+    (Taken-fit f.spacing (Offers f me before) fit.spacing (Offers-fit f me before calls)))
   where
     last : Option Receipt
     last = last_of (Accepted f me peer before)

@@ -48,7 +48,8 @@ chosen-brought f me log peer call b brings =
     unmapped at [] = refl
     unmapped at (e ∷ es) = ap (λ xs. e ∷ xs) (unmapped at es)
 
-    exchanges : (fresh : Option track.Chosen) → map (λ (chosen : track.Chosen). chosen.exchange) (option_to_list fresh) ≡ option_to_list (option_map (λ (chosen : track.Chosen). chosen.exchange) fresh)
+    exchanges : (fresh : Option track.Chosen) → map (λ (chosen : track.Chosen). chosen.exchange) (option_to_list fresh)
+        ≡ option_to_list (option_map (λ (chosen : track.Chosen). chosen.exchange) fresh)
     exchanges None = refl
     exchanges (Some chosen) = refl
 
@@ -62,7 +63,8 @@ pub record IsReceived (t : Kept) (log : List Call) (at peer : ℕ) (bits : List 
 
 pub Received : (t : Kept) (log : List Call) (at peer : ℕ) (bits : List ℕ) (span : Span) (place : ℕ) (x y : Peer) (b : Brought)
     → StandsFor t log → span ≡ span_with t.span at → IsAt t.settings t.me t.peers place peer x
-    → ((f : Fields) (calls : List Call) (at : ℕ) → Follows f t.me calls x → span.now ≡ now (calls ++ hears at x.station bits ∷ []) → Follows f t.me (calls ++ hears at x.station bits ∷ []) y)
+    → ((f : Fields) (calls : List Call) (at : ℕ) → Follows f t.me calls x → span.now ≡ now (calls ++ hears at x.station bits ∷ [])
+    → Follows f t.me (calls ++ hears at x.station bits ∷ []) y)
     → ((f : Fields) (calls : List Call) (at : ℕ) → Follows f t.me calls x → span.now ≡ now (calls ++ hears at x.station bits ∷ [])
     → Brings f t.me calls x.station (hears at x.station bits) b)
     → IsReceived t log at peer bits span place x y b

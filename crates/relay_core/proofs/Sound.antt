@@ -60,7 +60,8 @@ ending-sound r at missed g sound = go (nat_le r.misses missed)
     go false = All-cons EndsSound (ends at g) [] sound (All-nil EndsSound)
 
 -- a step of the reading of bits
-onward-sound : (r : Rules) (bits : List ℕ) (place : Place) (step : Reading) → (1 ≤ r.channels) × (r.channels ≤ 12) → AreBits bits → onward r bits place ≡ Some step → All EndsSound step.events
+onward-sound : (r : Rules) (bits : List ℕ) (place : Place) (step : Reading) → (1 ≤ r.channels) × (r.channels ≤ 12)
+    → AreBits bits → onward r bits place ≡ Some step → All EndsSound step.events
 onward-sound r bits (hunts h) step few are is =
     let made = from_map (lock_made r bits) (lock_from r.words bits h) step is in
     subst (λ (s : Reading). All EndsSound s.events) made.2 (All-cons EndsSound (locks (made.0 + 272)) [] tt (All-nil EndsSound))
@@ -77,7 +78,8 @@ step-sound : (r : Rules) (bits : List ℕ) (s : Reading) (step : Option Reading)
 step-sound r bits s None few are is all = all
 step-sound r bits s (Some step) few are is all = All-append EndsSound s.events step.events all (onward-sound r bits s.place step few are is)
 
-steps-sound : (n : ℕ) (r : Rules) (bits : List ℕ) (s : Reading) → (1 ≤ r.channels) × (r.channels ≤ 12) → AreBits bits → All EndsSound s.events → All EndsSound (steps n r bits s).events
+steps-sound : (n : ℕ) (r : Rules) (bits : List ℕ) (s : Reading) → (1 ≤ r.channels) × (r.channels ≤ 12)
+    → AreBits bits → All EndsSound s.events → All EndsSound (steps n r bits s).events
 unfolding steps
 steps-sound zero r bits s few are all = all
 steps-sound (suc n) r bits s few are all = steps-sound n r bits (with_step s (onward r bits s.place)) few are (step-sound r bits s (onward r bits s.place) few are refl all)

@@ -80,7 +80,8 @@ follows-turned f me log first time p follows = record {
 }
 
 -- turning alarms keeps the peers and their order
-pub stations-turned : (first time : ℕ) (ps qs : List Peer) (stations : List ℕ) → qs ≡ map (turned first time) ps → map (λ p. p.station) ps ≡ stations → map (λ p. p.station) qs ≡ stations
+pub stations-turned : (first time : ℕ) (ps qs : List Peer) (stations : List ℕ) → qs ≡ map (turned first time) ps → map (λ p. p.station) ps ≡ stations
+    → map (λ p. p.station) qs ≡ stations
 stations-turned first time ps qs stations is same = ap (map (λ p. p.station)) is ∙ map-mapped (λ p. p.station) (turned first time) ps ∙ same
 
 pub StandsFor-turned : (t : Kept) (log : List Call) (call : Call) (span : Span) (newest : Option Numbered) (decider : Decider) (ps qs : List Peer)

@@ -37,11 +37,14 @@ abbrev pub number_behind : Option Contents → ℕ
 number_behind None = 0
 number_behind (Some m) = m.number + 1
 
+-- whether a message of a number can begin: none is in flight, and the number is above that of the last one begun
+abbrev pub can_begin : ℕ → List (Slot Contents) → ℕ → Bool
+can_begin channels slots number = is_free channels slots && nat_le (number_behind (slice_get (reverse (begun_in slots)) 0)) number
+
 -- the message that begins: none where one is in flight or the newest sample's number isn't above that of the last one begun
 abbrev pub begins : ℕ → List (Slot Contents) → Option Contents → Option Contents
 begins channels slots None = None
-begins channels slots (Some m) =
-    if is_free channels slots && nat_le (number_behind (slice_get (reverse (begun_in slots)) 0)) m.number then Some m else None
+begins channels slots (Some m) = if can_begin channels slots m.number then Some m else None
 
 -- the message that a slot could carry to a peer: that of the newest sample
 abbrev pub ready : Fields → ℕ → ℕ → List Call → ℕ → Option Contents

@@ -2,16 +2,19 @@
 
 ghost use Rattle.std.specs.Prelude.{◌≡◌, ◌≢◌, ◌≤◌, ◌+◌, ◌++◌, ◌∷◌, [], ℕ, List, length, map, option_map};
 ghost use Rattle.std.specs.Option.{ForSome, option_to_list};
-ghost use Rattle.ld_base.specs.Message.{IsEcho};
+ghost use Rattle.ld_base.specs.Message.{Contents, IsEcho};
 ghost use Rattle.ld_base.specs.declared.fields.Fields.{Fields};
 ghost use Rattle.offset_track.specs.Track as track;
+ghost use Rattle.payload_map.specs.Sent.{Slot};
 ghost use Rattle.pingpong.specs.Exchange.{Stamps};
+ghost use Rattle.sample_store.specs.declared.ring.Numbered.{Numbered};
 ghost use Rattle.relay_core.specs.Answers.{news_in, news_of, taken_of};
 ghost use Rattle.relay_core.specs.Follows.{Brings, Follows, SendsSlot, Signals, exchanges_in, fresh_in, last_after};
 ghost use Rattle.relay_core.specs.Log.{Call};
 ghost use Rattle.relay_core.specs.Log.Call.{faults, hears};
 ghost use Rattle.relay_core.specs.Log as log;
-ghost use Rattle.relay_core.specs.Sent.{echo_of, message_of};
+ghost use Rattle.relay_core.specs.Sent.{begins, echo_of, message_of};
+ghost use Rattle.relay_core.specs.Talks.{Talks};
 ghost use Rattle.relay_core.specs.Turned.{facts_kept, told, turned};
 
 use crate::listener::Listener;
@@ -84,7 +87,7 @@ impl Peer {
         let told = self.listener.hear(chunk);
         let news = news_of(self.station, me, &self.last, told.message);
         let (taken, fresh) = exchanged(&mut self.track, &news, now);
-        self.last = last_after(self.last, &news, now);
+        keep(&mut self.last, &news, now);
         Brought {
             frame: told.frame,
             news,
@@ -99,13 +102,29 @@ impl Peer {
         requires { self.old.station ≢ me }
         ensures { SendsSlot me now newest self.old self.new result }
     {
-        let ready = message_of(me, self.station, now, &self.last, newest);
+        // A message that can't begin need not be made.
+        let sample = self.ready(newest);
+        let ready = message_of(me, self.station, now, &self.last, sample);
         let spoken = self.talker.slot(ready, !self.listener.locked);
         let bytes = spoken.bytes;
         Outgoing {
             to: self.station,
             bytes,
             begun: spoken.begun,
+        }
+    }
+
+    // The newest own sample, where a message of it can begin with the next slot.
+    fn ready(&self, newest: Option<Numbered>) -> Option<Numbered>
+        ensures { (f : Fields) (slots : List (Slot Contents)) → Talks f self.now.talker slots
+            → (message : Numbered → Contents) → ((sample : Numbered) → (message sample).number ≡ sample.number)
+            → begins f.channels slots (option_map message result) ≡ begins f.channels slots (option_map message newest) }
+    {
+        let sample = newest?;
+        if self.talker.takes(sample.number) {
+            Some(sample)
+        } else {
+            None
         }
     }
 
@@ -142,7 +161,7 @@ impl Peer {
             locked: self.listener.locked,
             yellow: self.listener.yellow,
             quiet: now.get().saturating_sub(heard.get()),
-            aligned: self.track.in_force(now).is_some(),
+            aligned: self.track.is_aligned(now),
             faulty: self.faulty,
         }
     }
@@ -197,16 +216,15 @@ fn offer(kept: &mut Track, exchange: Option<Exchange>) -> Option<Taken>
     Some(kept.accept(exchange?))
 }
 
-// The last message accepted, with this news at the terminal's time.
-fn last_after(last: Option<Receipt>, news: &News, now: Ticks) -> Option<Receipt>
-    ensures { result ≡ last_after last now news.now }
+// Keeps the message of this news as the last one accepted, where it is accepted at the terminal's time.
+fn keep(last: &mut Option<Receipt>, news: &News, now: Ticks)
+    ensures { last.new ≡ last_after last.old now news.now }
 {
-    match news {
-        News::Accepted(message) => Some(Receipt {
+    if let News::Accepted(message) = news {
+        *last = Some(Receipt {
             message: *message,
             at: now,
-        }),
-        News::Nothing | News::Repeat { .. } | News::Stranger { .. } => last,
+        });
     }
 }
 

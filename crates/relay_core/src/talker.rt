@@ -1,9 +1,10 @@
 //! The sending side of a line: from messages to frames.
 
-ghost use Rattle.std.specs.Prelude.{◌≡◌, List, []};
+ghost use Rattle.std.specs.Prelude.{◌≡◌, ◌≤◌, List, [], length, true};
 ghost use Rattle.ld_base.specs.Message.{Contents};
 ghost use Rattle.ld_base.specs.declared.fields.Fields.{Fields};
 ghost use Rattle.payload_map.specs.Sent.{Slot};
+ghost use Rattle.relay_core.specs.Sent.{can_begin};
 ghost use Rattle.relay_core.specs.Talks.{Begins, Speaks, Talks};
 
 use ld_base::{Message, Settings};
@@ -48,15 +49,26 @@ impl Talker {
         }
     }
 
+    /// Whether a message of that number can begin with the next slot.
+    pub(crate) fn takes(&self, number: u32) -> bool
+        ensures takes { (f : Fields) (slots : List (Slot Contents)) → Talks f self.now slots → result ≡ can_begin f.channels slots number }
+        ensures idle { result ≡ true → length self.now.outlet.left ≤ 0 }
+    {
+        if self.outlet.in_flight() {
+            return false;
+        }
+        self.next <= u64::from(number)
+    }
+
     // Loads the message that is ready, where it begins with the next slot.
     fn begin(&mut self, ready: Option<Message>) -> Option<Message>
         ensures { (f : Fields) (slots : List (Slot Contents)) → Talks f self.old slots → Begins f self.new slots ready result }
     {
         let message = ready?;
-        if u64::from(message.number) < self.next {
+        if !self.takes(message.number) {
             return None;
         }
-        self.outlet.load(encode(&message)).ok()?;
+        let _ = self.outlet.load(encode(&message));
         self.next = u64::from(message.number) + 1;
         Some(message)
     }

@@ -85,6 +85,7 @@ impl Terminal {
     }
 
     /// Takes an own sample, and judges the set that it completes.
+    #[inline(never)]
     pub fn sample(&mut self, now: Ticks, v: Phases) -> Sampled
         ensures settings { (self.new.settings ≡ self.old.settings) × (self.new.me ≡ self.old.me) }
         ensures own { (calls : List Call) → StandsFor self.old calls
@@ -100,15 +101,17 @@ impl Terminal {
         self.span = Some(span);
         let (own, judged) = self.decider.own(now, v);
         self.newest = newest_after(self.newest, own, v);
-        let changes = turn_all(&mut self.peers, since, now);
-        Sampled {
+        let mut sampled = Sampled {
             own,
             judged,
-            changes,
-        }
+            changes: Changes::new(),
+        };
+        turn_all(&mut self.peers, since, now, &mut sampled.changes);
+        sampled
     }
 
     /// The frames of the next slot, one to each peer.
+    #[inline(never)]
     pub fn slot(&mut self, now: Ticks) -> Slotted
         ensures settings { (self.new.settings ≡ self.old.settings) × (self.new.me ≡ self.old.me) }
         ensures frames { (calls : List Call) → StandsFor self.old calls
@@ -120,12 +123,23 @@ impl Terminal {
         let span = span_with(self.span, now);
         let (since, now) = (span.since, span.now);
         self.span = Some(span);
-        let frames = send_to_all(&mut self.peers, self.me, now, self.newest);
-        let changes = turn_all(&mut self.peers, since, now);
-        Slotted { frames, changes }
+        let mut slotted = Slotted {
+            frames: ArrayVec::new(),
+            changes: Changes::new(),
+        };
+        send_to_all(
+            &mut self.peers,
+            self.me,
+            now,
+            self.newest,
+            &mut slotted.frames,
+        );
+        turn_all(&mut self.peers, since, now, &mut slotted.changes);
+        slotted
     }
 
     /// Takes in the next bits of the line from a peer.
+    #[inline(never)]
     pub fn bits(&mut self, now: Ticks, peer: Station, chunk: &Chunk) -> Heard
         requires { IsPeerOf self.old peer }
         ensures settings { (self.new.settings ≡ self.old.settings) × (self.new.me ≡ self.old.me) }
@@ -154,7 +168,8 @@ impl Terminal {
         let place = place_of(self.me, peer);
         let brought = self.peers[place].hear(self.me, now, chunk);
         let (placed, judged) = put(&mut self.decider, peer, &brought.news, brought.fresh);
-        let changes = turn_all(&mut self.peers, since, now);
+        let mut changes = Changes::new();
+        turn_all(&mut self.peers, since, now, &mut changes);
         Heard {
             frame: brought.frame,
             news: brought.news,
@@ -180,7 +195,9 @@ impl Terminal {
         self.span = Some(span);
         let place = place_of(self.me, peer);
         self.peers[place].fault();
-        turn_all(&mut self.peers, since, now)
+        let mut changes = Changes::new();
+        turn_all(&mut self.peers, since, now, &mut changes);
+        changes
     }
 }
 
@@ -287,35 +304,34 @@ fn exchange_of(fresh: Option<Fresh>) -> Option<Exchange>
     Some(fresh?.exchange())
 }
 
-// The frames of the next slot, one to each peer.
+// The frames of the next slot, one to each peer, where there were none before.
 fn send_to_all(
     peers: &mut [Peer],
     me: Station,
     now: Ticks,
     newest: Option<Numbered>,
-) -> ArrayVec<Outgoing, 2>
+    frames: &mut ArrayVec<Outgoing, 2>,
+)
     requires few { length peers.old ≤ 2 }
     requires others { All (λ p. p.station ≢ me) peers.old }
-    ensures count { (length peers.new ≡ length peers.old) × (length result.items ≡ length peers.old) }
+    requires none { frames.old.items ≡ [] }
+    ensures count { (length peers.new ≡ length peers.old) × (length frames.new.items ≡ length peers.old) }
     ensures each { (k : ℕ) (p q : Peer) (o : Outgoing) → k < length peers.old
-        → SendsSlot me now newest (slice_index_or peers.old k p) (slice_index_or peers.new k q) (slice_index_or result.items k o) }
+        → SendsSlot me now newest (slice_index_or peers.old k p) (slice_index_or peers.new k q) (slice_index_or frames.new.items k o) }
 {
-    let mut frames = ArrayVec::new();
     for peer in peers.iter_mut() {
         frames.push(peer.slot(me, now, newest));
     }
-    frames
 }
 
-// Turns the alarms of every peer.
-fn turn_all(peers: &mut [Peer], since: Ticks, now: Ticks) -> Changes
-    requires { length peers.old ≤ 2 }
+// Turns the alarms of every peer, and tells which of them changed, where none were told before.
+fn turn_all(peers: &mut [Peer], since: Ticks, now: Ticks, changes: &mut Changes)
+    requires few { length peers.old ≤ 2 }
+    requires none { changes.old.items ≡ [] }
     ensures turned { peers.new ≡ map (turned since now) peers.old }
-    ensures changes { result.items ≡ flat_map (told since now) peers.old }
+    ensures changes { changes.new.items ≡ flat_map (told since now) peers.old }
 {
-    let mut changes = Changes::new();
     for peer in peers.iter_mut() {
-        peer.turn(since, now, &mut changes);
+        peer.turn(since, now, changes);
     }
-    changes
 }

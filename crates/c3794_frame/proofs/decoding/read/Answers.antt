@@ -1,5 +1,6 @@
 use Rattle.std.proofs.Common.{lit<, lit≤, sym, ◌∙◌}
 use Rattle.c3794_frame.proofs.Decoded.{pairs_in, read_by, read_count, read_made, read_pair}
+use Rattle.c3794_frame.proofs.Filled.{frame-first}
 use Rattle.c3794_frame.proofs.decoding.read.Goals as goal
 
 pub returns-in_default-clause-reading : goal.returns-in_default-clause-reading
@@ -23,4 +24,6 @@ returns-clause-reading c =
     let none = sym c.broken_pair.ensures ∙ c.in_default-broken_pair.is in
     let line = c.nibble-count.ensures (pairs_in c.args.bits.now 2 c.told-bits none (lit≤ tt) (lit< tt)) in
     let line' = c.nibble.ensures (pairs_in c.args.bits.now 3 c.told-bits none (lit≤ tt) (lit< tt)) in
-    sym (read_made _ _ _ _ _ _ _ c.told-bits none line line' (c.payload_of-payload.ensures none) c.if-count-channels.false c.requires.1 c.new.ensures.frame) ∙ known
+    let made = c.payload_of.ensures.payload none in
+    let is = frame-first _ _ _ _ _ c.requires.1 made.long c.payload_of.ensures.unused c.of.ensures in
+    sym (read_made _ _ _ _ _ _ _ c.told-bits none line line' made c.if-count-channels.false c.requires.1 is) ∙ known

@@ -18,7 +18,8 @@ loop-peer-preserved c =
     let few = told-few c.args.since c.args.now x in
     let changes = c.turn.ensures.changes ∙ ap (λ y. c.loop-peer.changes.items ++ tells y) (sym c.peer-item.is) in
     record {
-      turned = IsWritten-more (turned c.args.since c.args.now) i old new x c.turn.new.self within long c.peer-item.is (c.turn.ensures.turned ∙ ap (turned c.args.since c.args.now) (sym c.peer-item.is)) is;
+      turned = IsWritten-more (turned c.args.since c.args.now) i old new x c.turn.new.self within long c.peer-item.is
+          (c.turn.ensures.turned ∙ ap (turned c.args.since c.args.now) (sym c.peer-item.is)) is;
       told =
           changes ∙ ap (λ xs. xs ++ tells x) c.loop-peer.invariant.told
           ∙ sym (flat_map-more (turned c.args.since c.args.now) tells i old new x within long c.peer-item.is is);

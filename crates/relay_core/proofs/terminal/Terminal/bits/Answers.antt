@@ -82,7 +82,7 @@ returns-clause-changes c = λ calls stands.
     let t = kept_of c.self.inside in
     let span = c.span_with-span.result in
     rw (← c.self.view_is)
-    (c.turn_all-changes.ensures.changes
+    (c.turn_all.ensures.changes
     ∙ ap (flat_map (told span.since span.now)) c.deref_mut.ensures.value
     ∙ changes-turned t calls (hears c.args.now c.args.peer c.args.chunk.now) span t.newest c.put-placed.new.decider
     (set t.peers c.place_of-place.result c.hear-brought.new.self) (served c calls stands))
@@ -94,7 +94,7 @@ returns-clause-stands c = λ calls stands.
     let place = c.place_of-place.result in
     let y = c.hear-brought.new.self in
     StandsFor-turned t calls (hears c.args.now c.args.peer c.args.chunk.now) span t.newest c.put-placed.new.decider (set t.peers place y) _ (served c calls stands)
-    (written-mapped (turned span.since span.now) (with_item c.self.inside.peers place y) _ c.turn_all-changes.new.peers c.deref_mut.ensures.value c.turn_all-changes.ensures.turned)
+    (written-mapped (turned span.since span.now) (with_item c.self.inside.peers place y) _ c.turn_all.new.peers c.deref_mut.ensures.value c.turn_all.ensures.turned)
 
 pub invariant_of-self : goal.invariant_of-self
 invariant_of-self c =
@@ -105,7 +105,7 @@ invariant_of-self c =
     let y = c.hear-brought.new.self in
     let requires = rw (← c.self.view_is) at c.requires.station in
     let at = IsAt-place t.settings t.me t.peers place c.args.peer x c.self.invariant.peers (c.place_of-place.ensures t.settings requires) c.index_mut.ensures.value in
-    let peers = written-mapped (turned span.since span.now) (with_item c.self.inside.peers place y) _ c.turn_all-changes.new.peers c.deref_mut.ensures.value c.turn_all-changes.ensures.turned in
+    let peers = written-mapped (turned span.since span.now) (with_item c.self.inside.peers place y) _ c.turn_all.new.peers c.deref_mut.ensures.value c.turn_all.ensures.turned in
     let early = decided-later c.self.inside.span c.args.now c.self.inside.decider.store.now span c.span_with-span.ensures c.self.invariant.decided in
     record {
       me = c.self.invariant.me;

@@ -15,7 +15,7 @@ use Rattle.relay_core.proofs.terminal.Terminal.sample.Goals as goal
 pub invariant_of-self : goal.invariant_of-self
 invariant_of-self c =
     let span = c.span_with-span.result in
-    let peers = written-mapped (turned span.since span.now) c.self.inside.peers _ c.turn_all-changes.new.peers c.deref_mut.ensures.value c.turn_all-changes.ensures.turned in
+    let peers = written-mapped (turned span.since span.now) c.self.inside.peers _ c.turn_all.new.peers c.deref_mut.ensures.value c.turn_all.ensures.turned in
     record {
       me = c.self.invariant.me;
       peers = stations-turned span.since span.now c.self.inside.peers.items _ (log.peers c.self.inside.settings c.self.inside.me) peers c.self.invariant.peers;
@@ -57,7 +57,7 @@ returns-clause-changes c = λ calls stands.
     let t = kept_of c.self.inside in
     let span = c.span_with-span.result in
     rw (← c.self.view_is)
-    (c.turn_all-changes.ensures.changes
+    (c.turn_all.ensures.changes
     ∙ ap (flat_map (told span.since span.now)) c.deref_mut.ensures.value
     ∙ changes-turned t calls (samples c.args.now c.args.v) span c.newest_after-self-inside.result c.own-own.new.self t.peers (served c calls stands))
 
@@ -66,4 +66,4 @@ returns-clause-stands c = λ calls stands.
     let t = kept_of c.self.inside in
     let span = c.span_with-span.result in
     StandsFor-turned t calls (samples c.args.now c.args.v) span c.newest_after-self-inside.result c.own-own.new.self t.peers _ (served c calls stands)
-    (written-mapped (turned span.since span.now) c.self.inside.peers _ c.turn_all-changes.new.peers c.deref_mut.ensures.value c.turn_all-changes.ensures.turned)
+    (written-mapped (turned span.since span.now) c.self.inside.peers _ c.turn_all.new.peers c.deref_mut.ensures.value c.turn_all.ensures.turned)
