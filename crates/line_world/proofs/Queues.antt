@@ -48,7 +48,9 @@ module _ (entry : Entry) (entries : List Entry) (due number : ℕ) (bits : List 
   abbrev out : List Entry → List Entry
   out all = remove_entry (is_at (by_key (due, number))) all
 
-  insert_step : (b : Bool) → nat_lt due entry.0.0 ≡ b → in_order more ≡ queued (in_order entries) chunk → in_order (by_order (by_key (due, number) entry.0)) ≡ by_test (nat_lt due entry.0.0)
+  insert_step : (b : Bool) → nat_lt due entry.0.0 ≡ b
+      → in_order more ≡ queued (in_order entries) chunk
+      → in_order (by_order (by_key (due, number) entry.0)) ≡ by_test (nat_lt due entry.0.0)
   insert_step true e so_far =
       let h : due < entry.0.0 = grind (arith, nat_tests) in
       ap (λ (o : Ordering). in_order (by_order o)) (sooner due number entry.0 h) ∙ sym (ap (λ (b : Bool). by_test b) e)
@@ -112,7 +114,8 @@ none_due (entry ∷ entries) key bits at e h =
     ap (λ (b : Bool). if b then Some entry.1 else None) (is_due entry key bits at is h)
 
 -- and nothing is taken
-pub none_taken : (entries : List Entry) (key : ℕ × ℕ) (bits : List ℕ) (at : ℕ) → slice_get entries 0 ≡ Some (key, bits) → at < key.0 → after_due (in_order entries) at ≡ in_order entries
+pub none_taken : (entries : List Entry) (key : ℕ × ℕ) (bits : List ℕ) (at : ℕ)
+    → slice_get entries 0 ≡ Some (key, bits) → at < key.0 → after_due (in_order entries) at ≡ in_order entries
 none_taken [] key bits at e h = cc
 none_taken (entry ∷ entries) key bits at e h =
     let is : entry ≡ (key, bits) = cc in

@@ -19,9 +19,13 @@ returns-clause-script c =
     ∙ sym (c.send_fails.ensures c.args.at c.go_to.ensures.from c.go_to.ensures.to) ∙ c.if-send_fails.false in
     elim c.match-carry.branch [
       | in-Ok w ↦
-          let queue : c.carry.new.queue ≡ fold queued c.self.inside.queue (chunks_of (acts_at c.self.inside.timetable.rules c.args.at) (c.args.at + delay_at c.self.inside.timetable.rules c.args.at) (line_bits 256 c.args.frame.now)) =
-          w.in-Ok.ensures ∙ ap (λ (rules : List Rule). fold queued c.self.inside.queue (chunks_of (acts_at rules c.args.at) (c.args.at + delay_at rules c.args.at) (line_bits 256 c.args.frame.now))) same in
-          subst (λ (result : Result (Unit {0}) WireError). SendsBy told (Some (record { rules = c.go_to.new.self.rules; queue = c.carry.new.queue })) c.args.at (line_bits 256 c.args.frame.now) result)
+          let queue : c.carry.new.queue ≡
+          fold queued c.self.inside.queue (chunks_of (acts_at c.self.inside.timetable.rules c.args.at) (c.args.at + delay_at c.self.inside.timetable.rules c.args.at)
+          (line_bits 256 c.args.frame.now)) =
+          w.in-Ok.ensures ∙ ap (λ (rules : List Rule). fold queued c.self.inside.queue
+          (chunks_of (acts_at rules c.args.at) (c.args.at + delay_at rules c.args.at) (line_bits 256 c.args.frame.now))) same in
+          subst (λ (result : Result (Unit {0}) WireError). SendsBy told (Some (record { rules = c.go_to.new.self.rules; queue = c.carry.new.queue }))
+          c.args.at (line_bits 256 c.args.frame.now) result)
           (sym w.result-is) (
             fails,
             ap (λ (rules : List Rule). Some (record { rules = rules; queue = c.carry.new.queue })) same
@@ -29,7 +33,8 @@ returns-clause-script c =
                 ∙ ap (λ (script : Script). Some (after_send script c.args.at (line_bits 256 c.args.frame.now))) inside,
           )
       | in-Err w ↦
-          subst (λ (result : Result (Unit {0}) WireError). SendsBy told (Some (record { rules = c.go_to.new.self.rules; queue = c.carry.new.queue })) c.args.at (line_bits 256 c.args.frame.now) result)
+          subst (λ (result : Result (Unit {0}) WireError). SendsBy told (Some (record { rules = c.go_to.new.self.rules; queue = c.carry.new.queue }))
+          c.args.at (line_bits 256 c.args.frame.now) result)
           (sym w.result-is) (
             fails,
             ap (λ (rules : List Rule). Some (record { rules = rules; queue = c.carry.new.queue })) same

@@ -12,7 +12,8 @@ loop-act-preserved c =
     elim c.match-act.branch [
       | in-Flip w ↦ flip_more c.args.acts.now c.loop-act.act-index w.in-Flip.bit (line_bits 256 c.args.frame.now) (line_bits 256 c.loop-act.bytes) (line_bits 256 c.match-act.bytes)
           c.loop-act-test.true w.in-Flip.is c.loop-act.invariant (rw w.bytes-is w.flip.ensures)
-      | in_default w ↦ rw w.bytes-is (no_flip_more c.args.acts.now c.loop-act.act-index (line_bits 256 c.args.frame.now) (line_bits 256 c.loop-act.bytes) c.loop-act-test.true w.in_default.not-Flip c.loop-act.invariant)
+      | in_default w ↦ rw w.bytes-is (no_flip_more c.args.acts.now c.loop-act.act-index (line_bits 256 c.args.frame.now) (line_bits 256 c.loop-act.bytes) c.loop-act-test.true
+          w.in_default.not-Flip c.loop-act.invariant)
     ]
 
 pub returns : goal.returns

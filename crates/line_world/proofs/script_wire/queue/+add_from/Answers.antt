@@ -22,7 +22,8 @@ pub returns-in-Ok-clause-added : goal.returns-in-Ok-clause-added
 returns-in-Ok-clause-added t c =
     c.in-Ok.ensures.added
     ∙ ap (λ (queue : List Due). fold queued queue (map due_of c.in-Some.rest.now))
-    (ap (λ (all : List ((ℕ × ℕ) × List ℕ)). in_order all) c.in_ok-insert.ensures.entries ∙ inserted c.args.all.now.entries c.in-Some.first.now.0 c.args.next c.in-Some.first.now.1 c.requires.numbered)
+    (ap (λ (all : List ((ℕ × ℕ) × List ℕ)). in_order all) c.in_ok-insert.ensures.entries
+    ∙ inserted c.args.all.now.entries c.in-Some.first.now.0 c.args.next c.in-Some.first.now.1 c.requires.numbered)
     ∙ sym (ap (λ (chunks : List (ℕ × List ℕ)). fold queued (in_order c.args.all.now.entries) (map due_of chunks)) c.in-Some.ensures.cases.0)
 
 pub returns-in-Err-clause-none : goal.returns-in-Err-clause-none

@@ -12,8 +12,10 @@ loop-rule-preserved c =
     ∙ ap (λ (rule : Rule). take c.loop-rule.rule-index c.args.rules.now ++ rule ∷ []) (sym c.rule-item.is)) in
     record {
       here = c.with-stretch.ensures.here;
-      stays = subst (λ (rules : List Rule). Stays rules c.add_covering.new.acts.items c.with-stretch.result.from c.with-stretch.result.to c.with-stretch.result.delay c.with-stretch.result.failing) more
-          (subst (λ (acts : List Act). Stays (take c.loop-rule.rule-index c.args.rules.now ++ c.rule-item.result ∷ []) acts c.with-stretch.result.from c.with-stretch.result.to c.with-stretch.result.delay c.with-stretch.result.failing)
+      stays = subst (λ (rules : List Rule). Stays rules c.add_covering.new.acts.items
+          c.with-stretch.result.from c.with-stretch.result.to c.with-stretch.result.delay c.with-stretch.result.failing) more
+          (subst (λ (acts : List Act). Stays (take c.loop-rule.rule-index c.args.rules.now ++ c.rule-item.result ∷ []) acts
+          c.with-stretch.result.from c.with-stretch.result.to c.with-stretch.result.delay c.with-stretch.result.failing)
           (sym c.add_covering.ensures.items) (c.with-stretch.ensures.stays _ _ c.loop-rule.invariant.stays));
       few = omega arith;
       room = c.add_covering.ensures.room ∙ c.loop-rule.invariant.room;

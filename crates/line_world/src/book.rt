@@ -1,0 +1,537 @@
+//! What is told of a run, and what must be known of it to tell more.
+
+ghost use Rattle.std.specs.Prelude.{◌≡◌, ◌≢◌, ◌+◌, ◌-◌, ◌<◌, ◌≤◌, ◌++◌, ◌∷◌, [], ℕ, if◌then◌else◌, List, All, IfOk, None, OnOk, Option, Some, length, map, option_map, slice_get};
+ghost use Rattle.std.specs.List.{flat_map};
+ghost use Rattle.std.specs.Option.{option_to_list};
+ghost use Rattle.std.specs.Vec.{vec_capacity, vec_len};
+ghost use Rattle.ld_base.specs.Settings.{setting_fault};
+ghost use Rattle.ld_base.specs.declared.fields.Fields.{Fields};
+ghost use Rattle.ld_base.specs.declared.phases.Phases.{Phases};
+ghost use Rattle.pingpong.specs.declared.journal.Entry.{Entry};
+ghost use Rattle.pingpong.specs.declared.journal.What.{What};
+ghost use Rattle.pingpong.specs.declared.journal.What.TheVariants as what;
+ghost use Rattle.relay_core.specs.Answers.{changes_by};
+ghost use Rattle.relay_core.specs.Log as log;
+ghost use Rattle.relay_core.specs.Log.Call.{faults, hears, samples, sends};
+ghost use Rattle.waveform_reader.specs.Sound.{IsStation};
+ghost use Rattle.line_world.specs.Book.{IsBook, IsHeard, IsSampled, IsSlotted, entry_at};
+ghost use Rattle.line_world.specs.Books.{IsEmpty, roomless, way_of, ways_to};
+ghost use Rattle.line_world.specs.Ledger.{AreRising};
+ghost use Rattle.line_world.specs.Occasions.{ways};
+ghost use Rattle.line_world.specs.Report.{alarm_line, bound_of, error_of, est_line, set_line};
+ghost use Rattle.line_world.specs.StationLog.{StationLog, stamp_at};
+ghost use Rattle.line_world.specs.Totals.{has_trip};
+ghost use Rattle.line_world.specs.Told.{accepted_in, arrival_on, begun_to, crossing_told, heard_from, kept_then, last_on, legs_kept, more, with_accepted, with_arrival, with_heard, with_judged, with_slot};
+
+use crate::crossing::{Arrival, Crossing, Legs};
+use crate::ledger::Ledger;
+use crate::line::{Line, Total};
+use crate::now::Now;
+use crate::stations::{station, stations_of};
+use bit_sync::Got;
+use ld_base::{Message, NoMemory, Settings, Station, Ticks};
+use offset_track::Taken;
+use pingpong::{Exchange, exchange_of};
+use relay_core::{Change, Changes, Heard, Judged, News, Outgoing, Sampled, Slotted};
+use std::alloc::Global;
+use std::marker::Model;
+use trip_logic::Verdict;
+
+/// The most lines of a call: an estimate, a set, and ten alarms.
+const MOST_LINES: usize = 12;
+
+/// Millionths of a tick.
+const MILLION: i128 = 1_000_000;
+
+/// The lines, the totals of the stations, how many accepted messages aren't honest, and a ledger for each directed line.
+#[derive(Drop)]
+pub(crate) struct Book {
+    settings: Settings,
+    lines: Vec<Line>,
+    totals: [Total; 3],
+    forged: u64,
+    ledgers: Vec<Ledger>,
+}
+
+impl Model for Book {
+    ghost use Rattle.line_world.specs.Book.{Book};
+
+    ghost Value = { Book };
+
+    ghost use Rattle.line_world.specs.Books.{AreLedgers, book_of};
+
+    ghost view = { book_of };
+
+    ghost invariant = { AreLedgers };
+}
+
+impl Book {
+    /// The book of an empty journal.
+    pub(crate) fn new(alloc: Global, s: &Settings) -> Result<Book, NoMemory>
+        requires { setting_fault s.now ≡ None }
+        ensures settings { IfOk result (λ book. book.settings ≡ s.now) }
+        ensures book { IfOk result (λ book. IsBook book []) }
+    {
+        Ok(Book {
+            settings: *s,
+            lines: Vec::new(alloc),
+            totals: [Total::default(); 3],
+            forged: 0,
+            ledgers: ledgers_of(alloc, s)?,
+        })
+    }
+
+    /// The lines.
+    pub(crate) fn lines(&self) -> &[Line]
+        ensures { result.now ≡ self.now.lines }
+    {
+        &self.lines
+    }
+
+    /// What a station counted.
+    pub(crate) fn total(&self, station: Station) -> Total
+        ensures { slice_get self.now.totals (station - 1) ≡ Some result }
+    {
+        self.totals[usize::from(station.get()) - 1]
+    }
+
+    /// How many accepted messages don't equal one that began earlier on their line.
+    pub(crate) fn forged(&self) -> u64
+        ensures { result ≡ self.now.forged }
+    {
+        self.forged
+    }
+
+    /// Makes room for what so many calls can tell.
+    pub(crate) fn make_room(&mut self, calls: usize) -> Result<(), NoMemory>
+        requires { calls ≤ 18 }
+        ensures same { self.new ≡ record self.old { ledgers = self.new.ledgers; room = self.new.room } }
+        ensures book { (journal : List Entry) → IsBook self.old journal → IsBook self.new journal }
+        ensures room { OnOk result (calls ≤ self.new.room) }
+    {
+        self.lines.reserve(MOST_LINES * calls)?;
+        make_room_on(&mut self.ledgers, calls)
+    }
+
+    /// A terminal answered this to its sample.
+    pub(crate) fn sampled(&mut self, now: &Now, me: Station, sampled: &Sampled)
+        requires there { IsStation self.old.settings.stations me }
+        requires room { 1 ≤ self.old.room }
+        ensures settings { self.new.settings ≡ self.old.settings }
+        ensures room { self.old.room ≤ self.new.room + 1 }
+        ensures book { (journal : List Entry) (values : Phases) → IsBook self.old journal
+            → IsSampled self.old.settings me (StationLog me journal) (samples (stamp_at me (entry_at now.now (what.Took me values))) values) sampled.now
+            → IsBook self.new (journal ++ entry_at now.now (what.Took me values) ∷ []) }
+    {
+        let total = &mut self.totals[usize::from(me.get()) - 1];
+        count_judged(total, sampled.judged);
+        decide(&mut self.lines, now, me, sampled.judged, &sampled.changes);
+    }
+
+    /// A terminal answered this to its slot.
+    pub(crate) fn slotted(&mut self, now: &Now, me: Station, slotted: &Slotted)
+        requires there { IsStation self.old.settings.stations me }
+        requires room { 1 ≤ self.old.room }
+        ensures settings { self.new.settings ≡ self.old.settings }
+        ensures room { self.old.room ≤ self.new.room + 1 }
+        ensures book { (journal : List Entry) (first : List ℕ) (second : Option (List ℕ)) → IsBook self.old journal
+            → IsSlotted self.old.settings me (StationLog me journal) (sends (stamp_at me (entry_at now.now (what.Slot me first second)))) slotted.now
+            → IsBook self.new (journal ++ entry_at now.now (what.Slot me first second) ∷ []) }
+    {
+        let heard = heard_by(&self.ledgers, me);
+        begin_on(&mut self.ledgers, now, me, &heard, &slotted.frames);
+        decide(&mut self.lines, now, me, None, &slotted.changes);
+    }
+
+    /// A terminal answered this to bits from a peer, at its time then.
+    pub(crate) fn heard(&mut self, now: &Now, me: Station, peer: Station, at: Ticks, heard: &Heard)
+        requires there { IsStation self.old.settings.stations me }
+        requires peer_there { IsStation self.old.settings.stations peer }
+        requires differ { peer ≢ me }
+        requires room { 1 ≤ self.old.room }
+        ensures settings { self.new.settings ≡ self.old.settings }
+        ensures room { self.old.room ≤ self.new.room + 1 }
+        ensures book { (journal : List Entry) (bits : List ℕ) → IsBook self.old journal
+            → at ≡ log.now (StationLog me (journal ++ entry_at now.now (what.Came me peer bits) ∷ []))
+            → IsHeard self.old.settings me peer (StationLog me journal) (hears (stamp_at me (entry_at now.now (what.Came me peer bits))) peer bits) heard.now
+            → IsBook self.new (journal ++ entry_at now.now (what.Came me peer bits) ∷ []) }
+    {
+        let total = &mut self.totals[usize::from(me.get()) - 1];
+        count_heard(total, heard);
+        count_judged(total, heard.judged);
+        let place = place_of(self.settings.fields().stations, peer, me);
+        let ledger = &mut self.ledgers[place];
+        let arrival = meet(ledger, now, at, heard);
+        self.forged = count_forged(self.forged, arrival);
+        estimate(
+            &mut self.lines,
+            &self.settings,
+            ledger,
+            now,
+            me,
+            peer,
+            heard,
+        );
+        decide(&mut self.lines, now, me, heard.judged, &heard.changes);
+    }
+
+    /// A call on a wire to or from a peer failed, and the terminal told these changes.
+    pub(crate) fn faulted(&mut self, now: &Now, me: Station, changes: &Changes)
+        requires there { IsStation self.old.settings.stations me }
+        requires room { 1 ≤ self.old.room }
+        ensures settings { self.new.settings ≡ self.old.settings }
+        ensures room { self.old.room ≤ self.new.room + 1 }
+        ensures took { (journal : List Entry) (peer : ℕ) → IsBook self.old journal
+            → changes.now.items ≡ changes_by self.old.settings me (StationLog me journal) (faults (stamp_at me (entry_at now.now (what.TakeFailed me peer))) peer)
+            → IsBook self.new (journal ++ entry_at now.now (what.TakeFailed me peer) ∷ []) }
+        ensures sent { (journal : List Entry) (peer : ℕ) → IsBook self.old journal
+            → changes.now.items ≡ changes_by self.old.settings me (StationLog me journal) (faults (stamp_at me (entry_at now.now (what.SendFailed me peer))) peer)
+            → IsBook self.new (journal ++ entry_at now.now (what.SendFailed me peer) ∷ []) }
+    {
+        decide(&mut self.lines, now, me, None, changes);
+    }
+}
+
+// Makes room for so many messages on each line.
+fn make_room_on(ledgers: &mut [Ledger], messages: usize) -> Result<(), NoMemory>
+    ensures same { map roomless ledgers.new ≡ map roomless ledgers.old }
+    ensures room { OnOk result (All (λ l. messages ≤ l.room) ledgers.new) }
+{
+    for ledger in ledgers.iter_mut() {
+        ledger.make_room(messages)?;
+    }
+    Ok(())
+}
+
+// Adds the lines of what a station decided: a set, and the alarms that changed.
+fn decide(lines: &mut Vec<Line>, now: &Now, me: Station, judged: Option<Judged>, changes: &[Change])
+    requires few { length changes.now ≤ 10 }
+    requires room { vec_len lines.old + 11 ≤ vec_capacity lines.old }
+    ensures lines { lines.new.items ≡ lines.old.items ++ map (set_line now.now.tick me) (option_to_list judged) ++ map (alarm_line now.now.tick me) changes.now }
+    ensures room { (vec_capacity lines.new ≡ vec_capacity lines.old) × (vec_len lines.new ≤ vec_len lines.old + 11) }
+{
+    add_set(lines, now, me, judged);
+    for change in changes {
+        lines.push_reserved(Line::Alarm {
+            time: now.tick,
+            station: me,
+            peer: change.peer,
+            turn: change.turn,
+        });
+    }
+}
+
+// Adds the line of a set, or none.
+fn add_set(lines: &mut Vec<Line>, now: &Now, me: Station, judged: Option<Judged>)
+    requires room { vec_len lines.old < vec_capacity lines.old }
+    ensures lines { lines.new.items ≡ lines.old.items ++ map (set_line now.now.tick me) (option_to_list judged) }
+    ensures room { (vec_capacity lines.new ≡ vec_capacity lines.old) × (vec_len lines.new ≤ vec_len lines.old + 1) }
+{
+    let Some(judged) = judged else {
+        return;
+    };
+    let verdicts = judged.verdicts;
+    lines.push_reserved(Line::Judged {
+        time: now.tick,
+        station: me,
+        number: judged.number,
+        verdicts,
+    });
+}
+
+// Counts a set that was judged, or none.
+fn count_judged(total: &mut Total, judged: Option<Judged>)
+    ensures { total.new ≡ with_judged total.old judged }
+{
+    let trips = match &judged {
+        Some(judged) => has_trip(judged),
+        None => false,
+    };
+    total.sets = count(total.sets, judged.is_some());
+    total.trips = count(total.trips, trips);
+}
+
+// Whether a set trips a phase.
+fn has_trip(judged: &Judged) -> bool
+    ensures { result ≡ has_trip judged.now }
+{
+    judged
+        .verdicts
+        .iter()
+        .any(|verdict| matches!(verdict, Verdict::Trip))
+}
+
+// Counts what bits told.
+fn count_heard(total: &mut Total, heard: &Heard)
+    ensures { total.new ≡ with_heard total.old heard.now }
+{
+    let news = &heard.news;
+    let accepted = matches!(news, News::Accepted(_));
+    let repeated = matches!(news, News::Repeat { .. });
+    let strange = matches!(news, News::Stranger { .. });
+    let slow = heard.taken == Some(Taken::Slow);
+    let bad = matches!(heard.frame, Some(Got::Bad(_)));
+    total.accepted = count(total.accepted, accepted);
+    total.repeats = count(total.repeats, repeated);
+    total.strange = count(total.strange, strange);
+    total.refused = count(total.refused, heard.refused.is_some());
+    total.slow = count(total.slow, slow);
+    total.bad = count(total.bad, bad);
+}
+
+// A count with one more, where that is so.
+fn count(before: u64, one_more: bool) -> u64
+    ensures { result ≡ (if one_more then more before 1 else before) }
+{
+    if one_more {
+        before.saturating_add(1)
+    } else {
+        before
+    }
+}
+
+// A count of messages that aren't honest, with what arrived.
+fn count_forged(forged: u64, arrival: Option<Arrival>) -> u64
+    ensures { result ≡ with_arrival forged arrival }
+{
+    match arrival {
+        Some(arrival) if arrival.began.is_none() => forged.saturating_add(1),
+        _ => forged,
+    }
+}
+
+// The place of a directed line among those of so many stations: by receiver and then by sender.
+fn place_of(stations: u8, from: Station, to: Station) -> usize
+    requires stations { (2 ≤ stations) × (stations ≤ 3) }
+    requires there { (from ≤ stations) × (to ≤ stations) }
+    requires differ { from ≢ to }
+    ensures { (f : Fields) → f.stations ≡ stations → slice_get (ways f) result ≡ Some (record { from = from; to = to }) }
+{
+    let before = if from < to {
+        from.get() - 1
+    } else {
+        from.get() - 2
+    };
+    usize::from((to.get() - 1) * (stations - 1) + before)
+}
+
+// When a station accepted the last message of each of the three.
+fn heard_by(ledgers: &[Ledger], me: Station) -> [Option<Arrival>; 3]
+    ensures { (peer : ℕ) → 1 ≤ peer → peer ≤ 3 → slice_get result (peer - 1) ≡ Some (last_on ledgers.now peer me) }
+{
+    let first = last_on(ledgers, station(1), me);
+    let second = last_on(ledgers, station(2), me);
+    let third = last_on(ledgers, station(3), me);
+    [first, second, third]
+}
+
+// When the receiver of a line accepted the last message.
+fn last_on(ledgers: &[Ledger], from: Station, to: Station) -> Option<Arrival>
+    ensures { result ≡ last_on ledgers.now from to }
+{
+    for ledger in ledgers {
+        if ledger.goes(from, to) {
+            return ledger.last();
+        }
+    }
+    None
+}
+
+// The messages that begin in a station's slot, which had accepted these last ones of its peers.
+fn begin_on(
+    ledgers: &mut [Ledger],
+    now: &Now,
+    me: Station,
+    heard: &[Option<Arrival>; 3],
+    frames: &[Outgoing],
+)
+    requires { All (λ l. 1 ≤ l.room) ledgers.old }
+    ensures { ledgers.new ≡ map (with_slot now.now.tick me (heard_from heard.now) frames.now) ledgers.old }
+{
+    for ledger in ledgers.iter_mut() {
+        begin(ledger, now, me, heard, frames);
+    }
+}
+
+// The same on one line.
+fn begin(
+    ledger: &mut Ledger,
+    now: &Now,
+    me: Station,
+    heard: &[Option<Arrival>; 3],
+    frames: &[Outgoing],
+)
+    requires { 1 ≤ ledger.old.room }
+    ensures { ledger.new ≡ with_slot now.now.tick me (heard_from heard.now) frames.now ledger.old }
+{
+    if ledger.from() != me {
+        return;
+    }
+    let to = ledger.to();
+    if let Some(message) = begun_to(frames, to) {
+        ledger.begin(now, message, heard[usize::from(to.get()) - 1]);
+    }
+}
+
+// The message that begins for a station.
+fn begun_to(frames: &[Outgoing], to: Station) -> Option<Message>
+    ensures { result ≡ begun_to to frames.now }
+{
+    for outgoing in frames {
+        if outgoing.to == to {
+            return outgoing.begun;
+        }
+    }
+    None
+}
+
+// The receiver of a line accepts a message at its time, or none, and keeps the exchange that it completes, unless that took too long.
+fn meet(ledger: &mut Ledger, now: &Now, at: Ticks, heard: &Heard) -> Option<Arrival>
+    ensures ledger { AreRising ledger.old.begun → ledger.new ≡ with_accepted now.now.tick at heard.now.taken (accepted_in heard.now.news) ledger.old }
+    ensures arrival { AreRising ledger.old.begun → result ≡ option_map (arrival_on now.now.tick ledger.old) (accepted_in heard.now.news) }
+    ensures same { (ledger.new.from ≡ ledger.old.from) × (ledger.new.to ≡ ledger.old.to) × (ledger.new.room ≡ ledger.old.room) }
+{
+    let News::Accepted(message) = heard.news else {
+        return None;
+    };
+    let (arrival, legs) = ledger.accept(now, &message);
+    if let (Some(Taken::Kept), Some(exchange)) = (heard.taken, exchange_of(&message, at)) {
+        ledger.keep(Crossing { exchange, legs });
+    }
+    Some(arrival)
+}
+
+// Adds the line of the exchange in force, where its receiver kept one just then.
+fn estimate(
+    lines: &mut Vec<Line>,
+    s: &Settings,
+    ledger: &Ledger,
+    now: &Now,
+    me: Station,
+    peer: Station,
+    heard: &Heard,
+)
+    requires room { vec_len lines.old < vec_capacity lines.old }
+    ensures lines { (what : What) → lines.new.items ≡ lines.old.items
+        ++ map (est_line s.now me peer (entry_at now.now what)) (option_to_list (crossing_told ledger.now heard.now.taken heard.now.chosen)) }
+    ensures room { (vec_capacity lines.new ≡ vec_capacity lines.old) × (vec_len lines.new ≤ vec_len lines.old + 1) }
+{
+    let Some(chosen) = kept_then(heard.taken, heard.chosen) else {
+        return;
+    };
+    lines.push_reserved(est_line(s, ledger, now, me, peer, &chosen));
+}
+
+// The exchange in force, where one was kept just then.
+fn kept_then(taken: Option<Taken>, chosen: Option<Exchange>) -> Option<Exchange>
+    ensures { result ≡ kept_then taken chosen }
+{
+    match taken {
+        Some(Taken::Kept) => chosen,
+        _ => None,
+    }
+}
+
+// The line of the exchange in force, which the receiver of a line has kept.
+fn est_line(
+    s: &Settings,
+    ledger: &Ledger,
+    now: &Now,
+    me: Station,
+    peer: Station,
+    chosen: &Exchange,
+) -> Line
+    ensures { (what : What) → result ≡ est_line s.now me peer (entry_at now.now what) (record { exchange = chosen.now; legs = legs_kept ledger.now chosen.now }) }
+{
+    let bound = bound_with(s.fields().drift, now.tick, legs_kept(ledger, chosen));
+    Line::Est {
+        time: now.tick,
+        station: me,
+        peer,
+        estimate2: chosen.estimate2(),
+        round_trip: chosen.round_trip(),
+        error: error_of(now, me, peer, chosen),
+        bound,
+    }
+}
+
+// The legs of an exchange that the receiver of a line has kept.
+fn legs_kept(ledger: &Ledger, exchange: &Exchange) -> Option<Legs>
+    ensures { result ≡ legs_kept ledger.now exchange.now }
+{
+    match ledger.kept(exchange) {
+        Some(crossing) => crossing.legs,
+        None => None,
+    }
+}
+
+// How far an estimate can be, where the legs of its exchange are known.
+fn bound_with(drift: u32, time: u64, legs: Option<Legs>) -> Option<u128>
+    ensures { result ≡ option_map (bound_of drift time) legs }
+{
+    match legs {
+        Some(legs) => Some(bound_of(drift, time, legs)),
+        None => None,
+    }
+}
+
+// How far an estimate is from the true offset, in half millionths of a tick.
+fn error_of(now: &Now, me: Station, peer: Station, chosen: &Exchange) -> u128
+    ensures { (what : What) → result ≡ error_of me peer (entry_at now.now what) chosen.now }
+{
+    let own = i128::from(now.phases[usize::from(me.get()) - 1]);
+    let other = i128::from(now.phases[usize::from(peer.get()) - 1]);
+    (MILLION * i128::from(chosen.estimate2()) - 2 * (other - own)).unsigned_abs()
+}
+
+// How far it can be: by half its asymmetry, by the drift since the exchange began, and by a tick.
+fn bound_of(drift: u32, time: u64, legs: Legs) -> u128
+    ensures { result ≡ bound_of drift time legs }
+{
+    let there = u128::from(legs.came.saturating_sub(legs.sent));
+    let back = u128::from(legs.back.saturating_sub(legs.turned));
+    1_000_000 * there.abs_diff(back)
+        + 4 * u128::from(drift) * u128::from(time.saturating_sub(legs.sent))
+        + 2_000_000
+}
+
+// The ledgers of the directed lines, in their order.
+fn ledgers_of(alloc: Global, s: &Settings) -> Result<Vec<Ledger>, NoMemory>
+    requires { setting_fault s.now ≡ None }
+    ensures ways { IfOk result (λ ledgers. map way_of ledgers.items ≡ ways s.now) }
+    ensures empty { IfOk result (λ ledgers. All IsEmpty ledgers.items) }
+{
+    let stations = stations_of(s);
+    ledgers_between(alloc, stations.as_slice())
+}
+
+// The ledgers of the lines between some stations.
+fn ledgers_between(alloc: Global, stations: &[Station]) -> Result<Vec<Ledger>, NoMemory>
+    ensures ways { IfOk result (λ ledgers. map way_of ledgers.items ≡ flat_map (ways_to stations.now) stations.now) }
+    ensures empty { IfOk result (λ ledgers. All IsEmpty ledgers.items) }
+{
+    let mut ledgers = Vec::with_capacity(alloc, 6)?;
+    for to in stations {
+        add_ledgers(alloc, &mut ledgers, stations, *to)?;
+    }
+    Ok(ledgers)
+}
+
+// Adds the ledgers of the lines to a station.
+fn add_ledgers(
+    alloc: Global,
+    ledgers: &mut Vec<Ledger>,
+    stations: &[Station],
+    to: Station,
+) -> Result<(), NoMemory>
+    ensures ways { OnOk result (map way_of ledgers.new.items
+        ≡ map way_of ledgers.old.items ++ ways_to stations.now to) }
+    ensures empty { OnOk result (All IsEmpty ledgers.old.items → All IsEmpty ledgers.new.items) }
+{
+    for from in stations {
+        if *from != to {
+            ledgers.push(Ledger::new(alloc, *from, to))?;
+        }
+    }
+    Ok(())
+}

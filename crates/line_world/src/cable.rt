@@ -1,0 +1,87 @@
+//! The directed lines between the stations.
+
+ghost use Rattle.std.specs.Prelude.{◌≡◌, ℕ, ◌+◌, ◌≤◌, ◌∷◌, [], is_ok, if◌then◌else◌};
+ghost use Rattle.c3794_frame.specs.Numbers.{bits_of};
+ghost use Rattle.ld_base.specs.declared.fields.Fields.{Fields};
+ghost use Rattle.line_world.specs.Hall.{AreTwo, IsNow};
+ghost use Rattle.line_world.specs.Occasions.Occasion.{arrival, departure};
+ghost use Rattle.line_world.specs.Passes.{Passes, scene_of};
+ghost use Rattle.line_world.specs.Run.{newest_frame};
+ghost use Rattle.line_world.specs.Tick.{way_of};
+
+use crate::hall::Hall;
+use crate::now::Now;
+use ld_base::{NoMemory, Station, Wire, WireError};
+
+/// A directed line, and the wire on which it goes.
+#[derive(Drop)]
+pub(crate) struct Cable<W> {
+    pub(crate) from: Station,
+    pub(crate) to: Station,
+    wire: W,
+}
+
+impl<W: Wire> Cable<W> {
+    /// The line from one station to another.
+    pub(crate) fn new(from: Station, to: Station, wire: W) -> Cable<W>
+        ensures { (result.from ≡ from) × (result.to ≡ to) × (result.wire ≡ wire) }
+    {
+        Cable { from, to, wire }
+    }
+
+    /// The least tick from this one on at which something may come.
+    pub(crate) fn quiet_until(&self, at: u64) -> u64
+        requires { at ≤ 60000000 }
+        ensures next { result ≡ W.next_tick self.now.wire at }
+        ensures later { at ≤ result }
+    {
+        self.wire.quiet_until(at)
+    }
+
+    /// The receiver asks the line.
+    pub(crate) fn receive(&mut self, hall: &mut Hall, now: &Now)
+        requires room { 1 ≤ hall.old.room }
+        requires now { IsNow hall.old.setup now.now }
+        requires two { AreTwo hall.old.setup self.old.to self.old.from }
+        ensures setup { hall.new.setup ≡ hall.old.setup }
+        ensures room { hall.old.room ≤ hall.new.room + 1 }
+        ensures line { way_of self.new ≡ way_of self.old }
+        ensures passes { Passes hall.old.setup (record { time = now.now.tick; occasion = arrival self.old.to self.old.from } ∷ [])
+            (scene_of W.faults W.script hall.old (self.old ∷ [])) (scene_of W.faults W.script hall.new (self.new ∷ [])) }
+    {
+        match self.wire.take(now.tick) {
+            Ok(None) => {}
+            Ok(Some(bits)) => hall.came(now, self.to, self.from, bits),
+            Err(_) => hall.take_failed(now, self.to, self.from),
+        }
+    }
+
+    /// The sender's frame goes out.
+    pub(crate) fn send(
+        &mut self,
+        hall: &mut Hall,
+        now: &Now,
+        frame: &[u8; 32],
+    ) -> Result<(), NoMemory>
+        requires room { 1 ≤ hall.old.room }
+        requires now { IsNow hall.old.setup now.now }
+        requires two { AreTwo hall.old.setup self.old.from self.old.to }
+        requires newest { newest_frame hall.old.setup.settings self.old.from self.old.to hall.old.journal ≡ bits_of frame.now }
+        ensures setup { hall.new.setup ≡ hall.old.setup }
+        ensures room { hall.old.room ≤ hall.new.room + 1 }
+        ensures line { way_of self.new ≡ way_of self.old }
+        ensures frames { (f : Fields) (from to : ℕ) → newest_frame f from to hall.new.journal ≡ newest_frame f from to hall.old.journal }
+        ensures passes { Passes hall.old.setup
+            (if is_ok result then record { time = now.now.tick; occasion = departure self.old.from self.old.to } ∷ [] else [])
+            (scene_of W.faults W.script hall.old (self.old ∷ [])) (scene_of W.faults W.script hall.new (self.new ∷ [])) }
+    {
+        match self.wire.send(now.tick, frame) {
+            Ok(()) => Ok(()),
+            Err(WireError::Failed) => {
+                hall.send_failed(now, self.from, self.to);
+                Ok(())
+            }
+            Err(WireError::NoMemory) => Err(NoMemory),
+        }
+    }
+}
