@@ -74,5 +74,5 @@ def cases():
     statuses = [row[0] for row in rows("docs/FORMATS.md", "Exit status")]
     yield "FORMATS.md has each status", statuses, ["0", "2", "3", "4", "5", "6", "7"]
     yield "FORMATS.md has the usage line", "`%s`" % USAGE.replace("|", "\\|") in rows("docs/FORMATS.md", "Exit status")[1], True
-    examples = sorted(name for name in os.listdir(os.path.join(ROOT, "examples")) if name != "README.md")
+    examples = sorted(name for _, _, names in os.walk(os.path.join(ROOT, "examples")) for name in names if name != "README.md")
     yield "examples/README.md has each example", [name for name in examples if "`%s`" % name not in text_of("examples/README.md")], []

@@ -58,7 +58,8 @@ shifted_bit a b s k r small shift below is =
     let low : all % 2 ^ 16 / 2 ^ 8 ≡ all / 2 ^ 8 % 256 = omega arith in
     let count : 8 + i ≡ s + m = omega arith in
     let place : m + (s + k) ≡ 15 = omega arith in
-    ap (λ n. bit_at n i) (is ∙ low) ∙ low_bit (all / 2 ^ 8) i (omega arith) ∙ ap (λ n. n % 2) (shr-shr all 8 i ∙ ap (λ n. all / 2 ^ n) count ∙ sym (shr-shr all s m) ∙ ap (λ n. n / 2 ^ m) (shl-shr both s))
+    ap (λ n. bit_at n i) (is ∙ low) ∙ low_bit (all / 2 ^ 8) i (omega arith)
+    ∙ ap (λ n. n % 2) (shr-shr all 8 i ∙ ap (λ n. all / 2 ^ n) count ∙ sym (shr-shr all s m) ∙ ap (λ n. n / 2 ^ m) (shl-shr both s))
     ∙ both_bit a b m (s + k) small place
 
 -- a bit of two bytes of a list

@@ -2,12 +2,13 @@
 use Rattle.std.specs.Prelude.{ℕ, ◌≤◌, ◌&&◌, nat_le, if◌then◌else◌, List, [], ◌∷◌, Option, Some, None, bytes_eq, codes}
 use Rattle.row_reader.specs.Numbers.{word_number}
 use Rattle.bench_cmd.specs.declared.command.Command.{Command}
-use Rattle.bench_cmd.specs.declared.command.Command.TheVariants.{Frames, Judge}
+use Rattle.bench_cmd.specs.declared.command.Command.TheVariants.{Bench, Frames, Judge}
 
 -- the count of a command is one that `judge` takes
 abbrev pub IsFitting : Command → Type 0
 IsFitting (Judge count) = (1 ≤ count) × (count ≤ 32)
 IsFitting (Frames channels) = (1 ≤ channels) × (channels ≤ 12)
+IsFitting Bench = Unit {0}
 
 -- `judge` with a count of sets from 1 to 32
 abbrev pub judge_of : Option ℕ → Option Command
@@ -19,12 +20,20 @@ abbrev pub frames_of : Option ℕ → Option Command
 frames_of None = None
 frames_of (Some channels) = if nat_le 1 channels && nat_le channels 12 then Some (Frames channels) else None
 
--- the command of some words, where they have the shape of one
-abbrev pub command_of : List (List ℕ) → Option Command
-command_of [] = None
-command_of (name ∷ []) = None
-command_of (name ∷ word ∷ []) =
+-- `bench`, which is a name alone
+abbrev pub of_word : List ℕ → Option Command
+of_word name = if bytes_eq name (codes "bench") then Some Bench else None
+
+-- a name with a word for its count
+abbrev pub of_count : List ℕ → List ℕ → Option Command
+of_count name word =
     if bytes_eq name (codes "judge") then judge_of (word_number word)
     else if bytes_eq name (codes "frames") then frames_of (word_number word)
     else None
+
+-- the command of some words, where they have the shape of one
+abbrev pub command_of : List (List ℕ) → Option Command
+command_of [] = None
+command_of (name ∷ []) = of_word name
+command_of (name ∷ word ∷ []) = of_count name word
 command_of (name ∷ word ∷ other ∷ rest) = None

@@ -7,5 +7,8 @@ pub mod FramesText
 pub mod Gains
 pub mod Judge
 pub mod Outcomes
+pub mod ReportLines
+pub mod ReportText
+pub mod ScriptWires
 pub mod Statuses
 pub mod Transfers

@@ -7,7 +7,7 @@ ghost use Rattle.ld_base.specs.Piece.{bytes_of};
 ghost use Rattle.payload_map.specs.Pieces.{piece_of};
 ghost use Rattle.bench_cmd.specs.FrameLines.{echo_words, end_line, fault_number, fault_words, frame_line, heading_words, hex_words, lock_line, lost_line, message_line, phases_words, refused_line, whole_bytes};
 
-use crate::line::Line;
+use crate::text_line::TextLine;
 use bit_sync::Got;
 use c3794_frame::FrameFault;
 use ld_base::{Echo, Message, NoMemory, Phases, Piece};
@@ -58,7 +58,7 @@ pub(crate) fn write_got(
     ensures { OnOk result ((channels : ℕ) → bytes_of piece.now ≡ piece_of channels got.now
         → text.new.items ≡ text.old.items ++ frame_line channels end got.now) }
 {
-    let mut line = Line::new();
+    let mut line = TextLine::new();
     line.put(b"\n");
     match got {
         Got::Good(frame) => {
@@ -78,7 +78,7 @@ pub(crate) fn write_got(
 }
 
 // Puts a piece of payload in lower-case hexadecimal in front.
-fn put_payload(line: &mut Line, piece: &Piece)
+fn put_payload(line: &mut TextLine, piece: &Piece)
     requires { length line.old ≤ 120 }
     ensures payload { line.new ≡ hex_words (bytes_of piece.now) ++ line.old }
     ensures few { length line.new ≤ length line.old + 24 }
@@ -90,7 +90,7 @@ fn put_payload(line: &mut Line, piece: &Piece)
 }
 
 // Puts the words for a fault of a frame in front.
-fn put_fault(line: &mut Line, fault: &FrameFault)
+fn put_fault(line: &mut TextLine, fault: &FrameFault)
     requires { length line.old ≤ 120 }
     ensures fault { line.new ≡ fault_words fault.now ++ line.old }
     ensures few { length line.new ≤ length line.old + 26 }
@@ -125,7 +125,7 @@ pub(crate) fn write_hunted(text: &mut Vec<u8>, end: u64, hunted: &Hunted) -> Res
 fn write_message(text: &mut Vec<u8>, end: u64, message: &Message) -> Result<(), NoMemory>
     ensures { OnOk result (text.new.items ≡ text.old.items ++ message_line end message.now) }
 {
-    let mut line = Line::new();
+    let mut line = TextLine::new();
     line.put(b"\n");
     put_phases(&mut line, message.phases);
     put_echo(&mut line, message.echo);
@@ -143,7 +143,7 @@ fn write_message(text: &mut Vec<u8>, end: u64, message: &Message) -> Result<(), 
 }
 
 // Puts the stations of a message, the number of its sample, and its send stamp in front.
-fn put_heading(line: &mut Line, from: u8, to: u8, number: u32, sent: u64)
+fn put_heading(line: &mut TextLine, from: u8, to: u8, number: u32, sent: u64)
     requires { length line.old ≤ 120 }
     ensures heading { line.new ≡ heading_words from to number sent ++ line.old }
     ensures few { length line.new ≤ length line.old + 83 }
@@ -158,7 +158,7 @@ fn put_heading(line: &mut Line, from: u8, to: u8, number: u32, sent: u64)
 }
 
 // Puts the stamps of an echo in front, between commas.
-fn put_echo(line: &mut Line, echo: Option<Echo>)
+fn put_echo(line: &mut TextLine, echo: Option<Echo>)
     requires { length line.old ≤ 120 }
     ensures echo { line.new ≡ echo_words echo ++ line.old }
     ensures few { length line.new ≤ length line.old + 43 }
@@ -176,23 +176,23 @@ fn put_echo(line: &mut Line, echo: Option<Echo>)
 }
 
 // Puts the values of a sample in front.
-fn put_phases(line: &mut Line, phases: Phases)
+fn put_phases(line: &mut TextLine, phases: Phases)
     requires { length line.old ≤ 120 }
     ensures phases { line.new ≡ phases_words phases ++ line.old }
     ensures few { length line.new ≤ length line.old + 65 }
 {
-    line.put_signed(phases.c);
+    line.put_signed(i64::from(phases.c));
     line.put(b",");
-    line.put_signed(phases.b);
+    line.put_signed(i64::from(phases.b));
     line.put(b",");
-    line.put_signed(phases.a);
+    line.put_signed(i64::from(phases.a));
 }
 
 // Appends the line of a place at which a message was refused.
 fn write_refused(text: &mut Vec<u8>, end: u64, fault: MessageFault) -> Result<(), NoMemory>
     ensures { OnOk result (text.new.items ≡ text.old.items ++ refused_line end (Some fault)) }
 {
-    let mut line = Line::new();
+    let mut line = TextLine::new();
     line.put(b"\n");
     line.put_number(fault_number(fault));
     line.put(b",");
@@ -218,7 +218,7 @@ fn write_counted(text: &mut Vec<u8>, name: &[u8], count: u64, behind: &[u8]) -> 
     requires { (length name.now ≤ 20) × (length behind.now ≤ 20) }
     ensures { OnOk result (text.new.items ≡ text.old.items ++ name.now ++ decimal count ++ behind.now) }
 {
-    let mut line = Line::new();
+    let mut line = TextLine::new();
     line.put(behind);
     line.put_number(count);
     line.put(name);

@@ -136,7 +136,8 @@ fn write_line(text: &mut Vec<u8>, number: u32, verdicts: &[Verdict; 3]) -> Resul
     Ok(())
 }
 
-fn letter(verdict: Verdict) -> u8
+/// The letter of a verdict.
+pub(crate) fn letter(verdict: Verdict) -> u8
     ensures { letter verdict ≡ result ∷ [] }
 {
     match verdict {

@@ -1,6 +1,7 @@
 //! The commands of linediff, from words and input to text and status.
 #![tactic(auto)]
 
+mod bench;
 mod command;
 mod cutting;
 mod ends;
@@ -10,13 +11,18 @@ mod gains;
 mod input;
 mod judge;
 pub mod laws;
-mod line;
 mod output;
+mod report_lines;
+mod report_text;
+mod reports;
 mod runs;
+mod script_wires;
 mod status;
+mod text_line;
 mod words;
 
 pub use ends::{ReadSource, WriteSink};
+pub use reports::report;
 pub use runs::run;
 pub use status::Status;
 pub use words::words_of;

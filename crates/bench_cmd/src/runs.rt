@@ -9,6 +9,7 @@ ghost use Rattle.bench_cmd.specs.Transfers.{largest_input};
 ghost use Rattle.bench_cmd.specs.declared.command.Command.{Command};
 ghost use Rattle.ld_base.specs.Faults.{Rose};
 
+use crate::bench::bench;
 use crate::command::Command;
 use crate::frames::frames;
 use crate::input::{Unread, read_input};
@@ -69,6 +70,7 @@ fn outcome_of(alloc: Global, command: Command, input: &[u8]) -> Result<Outcome, 
     match command {
         Command::Judge { count } => judge(alloc, count, input),
         Command::Frames { channels } => Ok(Outcome::Text(frames(alloc, channels, input)?)),
+        Command::Bench => bench(alloc, input),
     }
 }
 

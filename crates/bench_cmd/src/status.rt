@@ -47,7 +47,7 @@ impl Status {
     {
         match self {
             Status::Done => None,
-            Status::Usage => Some("usage: linediff judge COUNT | frames N"),
+            Status::Usage => Some("usage: linediff judge COUNT | frames N | bench"),
             Status::BadInput { .. } => Some("bad input"),
             Status::ReadFault => Some("read fault"),
             Status::WriteFault => Some("write fault"),

@@ -1,9 +1,11 @@
-use crate::{Status, run, words_of};
+use crate::script_wires::script_wires;
+use crate::{Status, report, run, words_of};
 use itoa::Buffer;
 use ld_base::{MemorySink, MemorySource, Reason};
 use std::alloc::Global;
 use std::io::{self, ErrorKind};
 use std::test::Fail;
+use waveform_reader::read;
 
 const STEP: &[u8] = b"81,0,0,0,0,0,0\n82,0,0,0,0,0,0\n83,0,0,0,0,0,0\n84,0,0,0,0,0,0\n\
 85,0,0,0,0,0,0\n86,0,0,0,0,0,0\n87,0,0,0,0,0,0\n88,0,0,0,0,0,0\n89,0,0,0,0,0,0\n90,0,0,0,0,0,0\n\
@@ -22,7 +24,7 @@ struct Told {
     written: Vec<u8>,
 }
 
-// Runs `judge COUNT` over an input, with a source whose listed calls fail and a sink with that room whose listed calls fail.
+// Runs these words over an input, with a source whose listed calls fail and a sink with that room whose listed calls fail.
 fn judged(
     alloc: Global,
     words: &[&[u8]],
@@ -51,8 +53,12 @@ fn a_step_trips_at_its_second_set(rt: HostRuntime) -> Result<(), Fail> {
 }
 
 #[test]
-fn judge_wants_a_count_and_no_more(rt: HostRuntime) -> Result<(), Fail> {
-    let shapes: [(&[&[u8]], Status); 14] = [
+fn words_of_another_shape_are_no_command(rt: HostRuntime) -> Result<(), Fail> {
+    let no_settings = Status::BadInput {
+        row: 0,
+        reason: Reason::Settings,
+    };
+    let shapes: [(&[&[u8]], Status); 18] = [
         (&[b"judge", b"1"], Status::Done),
         (&[b"judge", b"4"], Status::Done),
         (&[b"judge", b"32"], Status::Done),
@@ -67,6 +73,10 @@ fn judge_wants_a_count_and_no_more(rt: HostRuntime) -> Result<(), Fail> {
         (&[b"Judge", b"4"], Status::Usage),
         (&[b"frame", b"5"], Status::Usage),
         (&[b"frames"], Status::Usage),
+        (&[b"bench"], no_settings),
+        (&[b"bench", b"5"], Status::Usage),
+        (&[b"bench", b""], Status::Usage),
+        (&[b"Bench"], Status::Usage),
     ];
     for (words, status) in shapes {
         let told = judged(rt.alloc(), words, b"", (&[], &[]), 0)?;
@@ -290,5 +300,55 @@ fn the_words_are_the_arguments_behind_the_first(rt: HostRuntime) -> Result<(), F
             Some(status)
         );
     }
+    Ok(())
+}
+
+// Two terminals whose messages take 1,000 ticks to send and 3,000 to come.
+const LINE: &[u8] =
+    b"set,stations,2\nset,channels,5\nset,end,9000\nclock,2,4200\ndelay,0,1,2,3000\ndelay,0,2,1,3000\n";
+
+const REPORT: &[u8] =
+    b"alarm,0,1,2,Unlocked,on\nalarm,0,1,2,Unaligned,on\nalarm,0,2,1,Unlocked,on\n\
+alarm,0,2,1,Unaligned,on\nalarm,3125,1,2,Unlocked,off\nalarm,3125,1,2,Yellow,on\nalarm,3125,2,1,Unlocked,off\n\
+alarm,3125,2,1,Yellow,on\nalarm,6125,1,2,Yellow,off\nalarm,6125,2,1,Yellow,off\nest,8750,1,2,8400,7750,0,3550000\n\
+set,8750,1,5,WWW\nalarm,8750,1,2,Unaligned,off\nest,8875,2,1,-8400,7750,0,3600000\nset,8875,2,9,WWW\n\
+alarm,8875,2,1,Unaligned,off\ntotal,1,5,1,0,0,0,0,0,0\ntotal,2,5,1,0,0,0,0,0,0\nforged,0\nend,9000\n";
+
+// The text of the report of an input over its script wires.
+fn reported(alloc: Global, input: &[u8]) -> Result<Vec<u8>, Fail> {
+    let scenario = read(alloc, input).or(Err("no scenario"))?;
+    let wires = script_wires(alloc, &scenario)?;
+    let (_, text) = report(alloc, scenario, wires)?;
+    Ok(text)
+}
+
+#[test]
+fn what_bench_writes_is_the_report_over_the_script_wires(rt: HostRuntime) -> Result<(), Fail> {
+    let alloc = rt.alloc();
+    let told = judged(alloc, &[b"bench"], LINE, (&[], &[]), 4096)?;
+    assert_eq!(rt; told.status, Status::Done);
+    assert_eq!(rt; told.written.as_slice(), REPORT);
+    assert_eq!(rt; reported(alloc, LINE)?.as_slice(), REPORT);
+    Ok(())
+}
+
+#[test]
+fn each_failing_call_of_a_bench_has_its_answer(rt: HostRuntime) -> Result<(), Fail> {
+    let alloc = rt.alloc();
+    let words: &[&[u8]] = &[b"bench"];
+    let told = judged(alloc, words, LINE, (&[1], &[]), 4096)?;
+    assert_eq!(rt; told.status, Status::ReadFault);
+    assert!(rt; told.written.is_empty());
+    let told = judged(alloc, words, LINE, (&[], &[]), 64)?;
+    assert_eq!(rt; told.status, Status::WriteFault);
+    assert!(rt; told.written.is_empty());
+
+    // A run whose text takes two writes.
+    let longer = b"set,stations,2\nset,channels,5\nset,end,45000\n";
+    let text = reported(alloc, longer)?;
+    assert!(rt; text.len() > 4096);
+    let told = judged(alloc, words, longer, (&[], &[1]), 8192)?;
+    assert_eq!(rt; told.status, Status::WriteFault);
+    assert_eq!(rt; told.written.as_slice(), text.split_at(4096).0);
     Ok(())
 }

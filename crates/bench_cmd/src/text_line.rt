@@ -4,7 +4,7 @@ ghost use Rattle.std.specs.Prelude.{◌≡◌, ◌≤◌, ◌+◌, ◌*◌, ◌+
 ghost use Rattle.std.specs.Fmt.{signed_decimal};
 ghost use Rattle.hex.specs.Hex.{encode_lower};
 
-use itoa::write_digits;
+use itoa::{Buffer, write_digits};
 use ld_base::NoMemory;
 use std::marker::Model;
 
@@ -14,12 +14,12 @@ const LONGEST: usize = 224;
 /// The end of a line, so far: each call puts something in front of it. So a number is made at its place, and the whole line
 /// is appended to a text at once.
 #[derive(Drop)]
-pub(crate) struct Line {
+pub(crate) struct TextLine {
     bytes: [u8; LONGEST],
     start: usize,
 }
 
-impl Model for Line {
+impl Model for TextLine {
     ghost use Rattle.std.specs.Prelude.{ℕ, List, ◌≤◌, drop};
 
     ghost Value = { List ℕ };
@@ -29,12 +29,12 @@ impl Model for Line {
     ghost invariant = { λ l. l.start ≤ 224 };
 }
 
-impl Line {
+impl TextLine {
     /// Nothing so far.
-    pub(crate) fn new() -> Line
+    pub(crate) fn new() -> TextLine
         ensures { result ≡ [] }
     {
-        Line {
+        TextLine {
             bytes: [0; LONGEST],
             start: LONGEST,
         }
@@ -60,15 +60,24 @@ impl Line {
     }
 
     /// Puts a signed number in front.
-    pub(crate) fn put_signed(&mut self, number: i16)
+    pub(crate) fn put_signed(&mut self, number: i64)
         requires { length self.old ≤ 203 }
         ensures number { self.new ≡ signed_decimal number ++ self.old }
         ensures few { length self.new ≤ length self.old + 21 }
     {
-        self.put_number(u64::from(number.unsigned_abs()));
+        self.put_number(number.unsigned_abs());
         if number < 0 {
             self.put(b"-");
         }
+    }
+
+    /// Puts a number of up to 128 bits in front.
+    pub(crate) fn put_wide(&mut self, number: u128)
+        requires { length self.old ≤ 184 }
+        ensures number { self.new ≡ decimal number ++ self.old }
+        ensures few { length self.new ≤ length self.old + 40 }
+    {
+        self.put(Buffer::new().format(number).as_bytes());
     }
 
     /// Puts up to twelve bytes in lower-case hexadecimal in front.

@@ -1,0 +1,65 @@
+-- What `bench` makes of a scenario, or of a text that is none.
+use Rattle.std.proofs.Common.{◌≡◌, ◌∙◌, ap, refl, sym, ℕ, List, [], ◌∷◌, map, Option, Some, Ok, Err, unwrap_or}
+use Rattle.std.proofs.lemmas.List.{map-id}
+use Rattle.std.proofs.lemmas.Simd.{map-map}
+use Rattle.ld_base.specs.Script.{Script, next_tick}
+use Rattle.ld_base.specs.declared.fields.Fields.{Fields}
+use Rattle.ld_base.specs.declared.rule.Rule.{Rule}
+use Rattle.row_reader.specs.Rows.{rows_of}
+use Rattle.row_reader.specs.declared.fault.Fault.{Fault}
+use Rattle.waveform_reader.specs.Scenario.{Setup, scenario_of}
+use Rattle.line_world.specs.Occasions.{Way, ways}
+use Rattle.line_world.specs.Passes.{Known, Tell, Told, known, known_of}
+use Rattle.line_world.specs.Run.{Directed, Run, lines_of}
+use Rattle.line_world.specs.Wires.{Scripted}
+use Rattle.line_world.specs.Worlds.{TellsNext}
+use Rattle.bench_cmd.specs.ReportText.{bench_text, report_of, report_or}
+use Rattle.bench_cmd.specs.ScriptWires.{wire_of, wires_of}
+
+-- the wires of a scenario tell the scripts of its directed lines
+pub wires_tell : (s : Setup) → map (λ wire. Some wire.script) (wires_of s) ≡ map (λ line. Some line.script) (lines_of s.settings s.rules)
+wires_tell s = map-map (λ wire. Some wire.script) wire_of (lines_of s.settings s.rules)
+
+-- and have the next ticks of their scripts
+pub wires_tell_next : TellsNext {W = Scripted} (λ wire. Some wire.script) (λ wire at. next_tick wire.script at)
+wires_tell_next wire script at e = ap (λ (told : Option Script). next_tick (unwrap_or told script) at) e
+
+-- the stations of a line
+abbrev pub told_on : Told → Way
+told_on wire = record { from = wire.from; to = wire.to }
+
+abbrev pub goes_on : Directed → Way
+goes_on line = record { from = line.from; to = line.to }
+
+-- wires of these lines that tell these scripts
+tell_both : (wires : List Told) (lines : List Directed) → map told_on wires ≡ map goes_on lines
+    → map (λ wire. wire.script) wires ≡ map (λ line. Some line.script) lines → Tell wires lines
+tell_both [] [] are scripts = refl
+tell_both [] (line ∷ lines) are scripts = absurd (cc)
+tell_both (wire ∷ wires) [] are scripts = absurd (cc)
+tell_both (wire ∷ wires) (line ∷ lines) are scripts =
+    let way : told_on wire ≡ goes_on line = cc in
+    let other_ways : map told_on wires ≡ map goes_on lines = cc in
+    let script : wire.script ≡ Some line.script = cc in
+    let others : map (λ (w : Told). w.script) wires ≡ map (λ (l : Directed). Some l.script) lines = cc in
+    let one : known wire ≡ known_of line =
+    ap (λ (from : ℕ). record { from = from; to = wire.to; script = wire.script }) (ap (λ (w : Way). w.from) way)
+    ∙ ap (λ (to : ℕ). record { from = line.from; to = to; script = wire.script }) (ap (λ (w : Way). w.to) way)
+    ∙ ap (λ (told : Option Script). record { from = line.from; to = line.to; script = told }) script in
+    ap (λ (k : Known). k ∷ map known wires) one ∙ ap (λ (all : List Known). known_of line ∷ all) (tell_both wires lines other_ways others)
+
+-- wires of the directed lines of a scenario that tell their scripts
+pub tell_lines : (f : Fields) (rules : List Rule) (wires : List Told) → map told_on wires ≡ ways f
+    → map (λ wire. wire.script) wires ≡ map (λ line. Some line.script) (lines_of f rules) → Tell wires (lines_of f rules)
+tell_lines f rules wires are scripts =
+    tell_both wires (lines_of f rules) (are ∙ sym (map-id (ways f)) ∙ sym (map-map goes_on _ (ways f))) scripts
+
+-- the report of the run of a scenario
+pub bench-report : (input : List ℕ) (s : Setup) (text : List ℕ) → scenario_of (rows_of input) ≡ Ok s → text ≡ report_of s (Run s) → bench_text input ≡ Ok text
+unfolding bench_text
+bench-report input s text read written = ap report_or read ∙ ap (λ t. Ok t) (sym written)
+
+-- a fault
+pub bench-fault : (input : List ℕ) (fault : Fault) → scenario_of (rows_of input) ≡ Err fault → bench_text input ≡ Err fault
+unfolding bench_text
+bench-fault input fault read = ap report_or read

@@ -1,0 +1,88 @@
+//! A run of a scenario, from its first tick to its end.
+
+ghost use Rattle.std.specs.Prelude.{◌≡◌, ◌≤◌, ◌++◌, ◌∷◌, [], Some, IfOk, OnOk, filter, length, map, nat_le};
+ghost use Rattle.bench_cmd.specs.ReportText.{report_of, totals_of};
+ghost use Rattle.line_world.specs.Occasions.{stations as stations_of, ways};
+ghost use Rattle.line_world.specs.Run.{Run, lines_of};
+ghost use Rattle.line_world.specs.Worlds.{FollowsScript, HasEnded, IsWorld, TellsNext};
+
+use crate::report_text::report_text;
+use ld_base::{NoMemory, Station, Wire};
+use line_world::{Stepped, Total, World};
+use std::alloc::Global;
+use waveform_reader::Scenario;
+
+/// The most stations.
+const MOST: usize = 3;
+
+/// Runs a scenario to its end over these wires, one for each directed line, in the order of the receiver and then of the sender. It
+/// gives back the world, whose next step answers `Ended`, with the text of the report of its journal. On `NoMemory` the scenario
+/// and the wires are dropped.
+pub fn report<W: Wire>(
+    alloc: Global,
+    scenario: Scenario,
+    wires: Vec<W>,
+) -> Result<(World<W>, Vec<u8>), NoMemory>
+    requires { length wires.items ≡ length (ways scenario.settings) }
+    ensures setup { IfOk result (λ made. made.0.setup ≡ scenario) }
+    ensures ended { IfOk result (λ made. HasEnded made.0) }
+    ensures world { IfOk result (λ made. IsWorld made.0) }
+    ensures text { IfOk result (λ made. made.1.items ≡ report_of scenario made.0.journal) }
+
+    // Over the script wires of the scenario it is the report of its run.
+    ensures run { TellsNext W.script W.next_tick → map W.script wires.items ≡ map (λ line. Some line.script) (lines_of scenario.settings scenario.rules)
+        → IfOk result (λ made. made.0.journal ≡ Run scenario) }
+{
+    let stations = scenario.settings().fields().stations;
+    let end = scenario.end();
+    let mut world = World::new(alloc, scenario, wires)?;
+    run_to_end(&mut world)?;
+    let totals = totals_of(alloc, &world, stations)?;
+    let text = report_text(alloc, world.lines(), &totals, world.forged(), end)?;
+    Ok((world, text))
+}
+
+// Steps a world until it ends.
+fn run_to_end<W: Wire>(world: &mut World<W>) -> Result<(), NoMemory>
+    ensures setup { world.new.setup ≡ world.old.setup }
+    ensures ended { OnOk result (HasEnded world.new) }
+    ensures world { IsWorld world.new }
+    ensures run { OnOk result (TellsNext W.script W.next_tick → FollowsScript world.old → world.new.journal ≡ Run world.old.setup) }
+{
+    'running: while let Stepped::Went(_) = world.step()? {}
+    Ok(())
+}
+
+// What each station of so many counted, in order.
+fn totals_of<W: Wire>(alloc: Global, world: &World<W>, stations: u8) -> Result<Vec<Total>, NoMemory>
+    requires { stations ≡ world.now.setup.settings.stations }
+    ensures { IfOk result (λ totals. totals.items ≡ totals_of world.now.setup.settings world.now.journal (stations_of world.now.setup.settings)) }
+{
+    let mut totals = Vec::with_capacity(alloc, MOST)?;
+    add_total(&mut totals, world, stations, 1)?;
+    add_total(&mut totals, world, stations, 2)?;
+    add_total(&mut totals, world, stations, 3)?;
+    Ok(totals)
+}
+
+// Adds what a station counted, where the line has a station of that number.
+fn add_total<W: Wire>(
+    totals: &mut Vec<Total>,
+    world: &World<W>,
+    stations: u8,
+    number: u8,
+) -> Result<(), NoMemory>
+    requires stations { stations ≡ world.now.setup.settings.stations }
+    requires number { (1 ≤ number) × (number ≤ 3) }
+    ensures { OnOk result (totals.new.items ≡ totals.old.items
+        ++ totals_of world.now.setup.settings world.now.journal (filter (λ station. nat_le station stations) (number ∷ []))) }
+{
+    if number > stations {
+        return Ok(());
+    }
+    let Some(station) = Station::new(number) else {
+        unreachable!()
+    };
+    totals.push(world.total(station))?;
+    Ok(())
+}
