@@ -7,7 +7,7 @@ use Rattle.ld_base.specs.declared.phases.Phases.{Phases}
 use Rattle.ld_base.specs.declared.phases.SampleSet.{SampleSet}
 use Rattle.ld_base.specs.declared.reason.Reason.{Reason}
 use Rattle.ld_base.specs.declared.reason.Reason.TheVariants as reason
-use Rattle.phasor.specs.Sum.{no_current}
+use Rattle.ld_base.specs.Phases.{no_current}
 use Rattle.trip_logic.specs.TripAt.{verdicts}
 use Rattle.trip_logic.specs.declared.verdict.Verdict.{Verdict}
 use Rattle.trip_logic.specs.declared.verdict.Verdict.TheVariants.{Waiting, Restrain, Outside, Trip}

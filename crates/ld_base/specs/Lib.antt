@@ -5,6 +5,7 @@ pub mod Faults
 pub mod Memory
 pub mod Message
 pub mod Packing
+pub mod Phases
 pub mod Piece
 pub mod Script
 pub mod Settings

@@ -14,7 +14,8 @@ use Rattle.phasor.specs.Factors.{factor, weighed}
 use Rattle.phasor.specs.Point.{Point, origin, plus, scaled}
 use Rattle.phasor.specs.Ring.{quiet, IsPushed}
 use Rattle.phasor.specs.Sizes.{IsOfSamples}
-use Rattle.phasor.specs.Sum.{phase_of, no_current, current, sum_of, sums_of}
+use Rattle.ld_base.specs.Phases.{no_current}
+use Rattle.phasor.specs.Sum.{phase_of, current, sum_of, sums_of}
 use Rattle.phasor.specs.Window.{Kept}
 use Rattle.phasor.proofs.Differences.{number, sum, negation, times, equal}
 use Rattle.phasor.proofs.Linear.{sum_from}

@@ -6,7 +6,7 @@ use Rattle.std.proofs.lemmas.List.{length_push, get_or-set_same, get_or-set_othe
 use Rattle.ld_base.specs.declared.phases.Phases.{Phases}
 use Rattle.ld_base.specs.declared.phases.SampleSet.{SampleSet}
 use Rattle.phasor.specs.Ring.{sets_below, quiet, Leaves, IsPushed}
-use Rattle.phasor.specs.Sum.{no_current}
+use Rattle.ld_base.specs.Phases.{no_current}
 use Rattle.phasor.specs.Window.{Kept}
 
 -- a sample of three zeros is no current

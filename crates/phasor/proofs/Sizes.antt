@@ -10,7 +10,8 @@ use Rattle.ld_base.specs.declared.phases.SampleSet.{SampleSet}
 use Rattle.phasor.specs.Factors.{weighed}
 use Rattle.phasor.specs.Point.{Point, IsWithin, origin, plus}
 use Rattle.phasor.specs.Sizes.{AreWithin, sum_at, IsSample, AreSamples, IsOfSamples}
-use Rattle.phasor.specs.Sum.{of_three, current, no_current, sum_of, sums_of}
+use Rattle.ld_base.specs.Phases.{no_current}
+use Rattle.phasor.specs.Sum.{of_three, current, sum_of, sums_of}
 use Rattle.phasor.proofs.Entries.{cosine_small, sine_small}
 use Rattle.phasor.proofs.Values.{product_small}
 

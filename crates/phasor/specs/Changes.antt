@@ -2,7 +2,8 @@
 use Rattle.std.specs.Prelude.{◌-ℤ◌, List, [], slice_index_or}
 use Rattle.ld_base.specs.declared.phases.Phases.{Phases}
 use Rattle.phasor.specs.Point.{Point, origin, plus, scaled}
-use Rattle.phasor.specs.Sum.{of_three, phase_of, no_current}
+use Rattle.ld_base.specs.Phases.{no_current}
+use Rattle.phasor.specs.Sum.{of_three, phase_of}
 
 -- the sums of no sets
 abbrev pub no_sums : List (List Point)

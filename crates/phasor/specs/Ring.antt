@@ -2,7 +2,7 @@
 use Rattle.std.specs.Prelude.{◌≡◌, ℕ, zero, suc, ◌+◌, ◌%◌, ◌<◌, List, [], ◌∷◌, ◌++◌, length, slice_index_or}
 use Rattle.ld_base.specs.declared.phases.Phases.{Phases}
 use Rattle.ld_base.specs.declared.phases.SampleSet.{SampleSet}
-use Rattle.phasor.specs.Sum.{no_current}
+use Rattle.ld_base.specs.Phases.{no_current}
 use Rattle.phasor.specs.Window.{Kept}
 
 -- the `count` sets below `stop`, oldest first, each with the values at the place of its number

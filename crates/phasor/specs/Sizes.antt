@@ -3,7 +3,8 @@ use Rattle.std.specs.Prelude.{ℕ, ◌^◌, ◌≤◌, unsigned_abs, List, [], s
 use Rattle.ld_base.specs.declared.phases.Phases.{Phases}
 use Rattle.ld_base.specs.declared.phases.SampleSet.{SampleSet}
 use Rattle.phasor.specs.Point.{Point, IsWithin, origin}
-use Rattle.phasor.specs.Sum.{phase_of, no_current}
+use Rattle.ld_base.specs.Phases.{no_current}
+use Rattle.phasor.specs.Sum.{phase_of}
 
 -- a sample has 16 bits with its sign
 abbrev pub sample_bits : ℕ

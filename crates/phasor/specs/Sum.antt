@@ -1,6 +1,7 @@
 -- Sum: the full-cycle sums of the sets up to a number, from scratch. (Full-cycle Fourier sums; the whole-number tables are
 -- this project's own.)
-use Rattle.std.specs.Prelude.{ℕ, zero, suc, ℤ, pos, ◌==◌, List, [], ◌∷◌, ◌++◌, map, fold, find, Option, Some, None, option_map, slice_index_or}
+use Rattle.std.specs.Prelude.{ℕ, zero, suc, ℤ, ◌==◌, List, [], ◌∷◌, ◌++◌, map, fold, find, Option, Some, None, option_map, slice_index_or}
+use Rattle.ld_base.specs.Phases.{no_current}
 use Rattle.ld_base.specs.declared.phases.Phases.{Phases}
 use Rattle.ld_base.specs.declared.phases.SampleSet.{SampleSet}
 use Rattle.phasor.specs.Point.{Point, origin, plus}
@@ -31,10 +32,6 @@ abbrev pub phase_of : ℕ → Phases → ℤ
 phase_of zero p = p.a
 phase_of (suc zero) p = p.b
 phase_of (suc (suc n)) p = p.c
-
--- no current in any phase
-abbrev pub no_current : Phases
-no_current = record { a = pos 0; b = pos 0; c = pos 0 }
 
 -- the value of a station's phase in a set, stations counted from 0
 abbrev pub current : ℕ → ℕ → SampleSet → ℤ

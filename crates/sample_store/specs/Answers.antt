@@ -3,7 +3,8 @@ use Rattle.std.specs.Prelude.{ℕ, ◌+◌, ◌-◌, ◌*◌, ◌/◌, ◌%◌, 
 use Rattle.ld_base.specs.declared.fields.Fields.{Fields}
 use Rattle.ld_base.specs.declared.phases.Phases.{Phases}
 use Rattle.ld_base.specs.declared.phases.SampleSet.{SampleSet}
-use Rattle.sample_store.specs.JudgedSet.{no_current, together}
+use Rattle.ld_base.specs.Phases.{no_current}
+use Rattle.sample_store.specs.JudgedSet.{together}
 use Rattle.sample_store.specs.Stock.{Stock, held_at}
 use Rattle.sample_store.specs.declared.ring.Ring.{Ring}
 use Rattle.sample_store.specs.declared.store.OwnTaken.{OwnTaken}

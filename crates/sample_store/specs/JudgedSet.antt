@@ -1,5 +1,6 @@
 -- JudgedSet: the sets of a station that are whole, each once and in rising order.
-use Rattle.std.specs.Prelude.{ℕ, ◌+◌, ◌*◌, max, nat_le, nat_lt, ◌&&◌, ◌==◌, if◌then◌else◌, pos, List, [], ◌∷◌, ◌++◌, Option, Some, None}
+use Rattle.std.specs.Prelude.{ℕ, ◌+◌, ◌*◌, max, nat_le, nat_lt, ◌&&◌, ◌==◌, if◌then◌else◌, List, [], ◌∷◌, ◌++◌, Option, Some, None}
+use Rattle.ld_base.specs.Phases.{no_current}
 use Rattle.ld_base.specs.declared.fields.Fields.{Fields}
 use Rattle.ld_base.specs.declared.phases.Phases.{Phases}
 use Rattle.ld_base.specs.declared.phases.SampleSet.{SampleSet}
@@ -7,10 +8,6 @@ use Rattle.pingpong.specs.Exchange.{estimate2}
 use Rattle.sample_store.specs.Aligned.{Aligned}
 use Rattle.sample_store.specs.Along.{along}
 use Rattle.sample_store.specs.Offers.{Offer, Own, Value, numbered, own_number, place_at, Taken, Placed}
-
--- no current in any phase
-abbrev pub no_current : Phases
-no_current = record { a = pos 0; b = pos 0; c = pos 0 }
 
 -- the values that a station has in set n: for one past the line's stations zero
 abbrev pub part : Fields → ℕ → List Offer → ℕ → ℕ → Option Phases

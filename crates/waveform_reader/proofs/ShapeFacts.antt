@@ -9,7 +9,7 @@ use Rattle.std.proofs.lemmas.List.Elements.{All-head, All-tail}
 use Rattle.std.proofs.lemmas.List.Folds.{find-append}
 use Rattle.ld_base.specs.declared.fields.Fields.{Fields}
 use Rattle.phasor.specs.Factors.{cosine}
-use Rattle.phasor.specs.Sum.{no_current}
+use Rattle.ld_base.specs.Phases.{no_current}
 use Rattle.waveform_reader.specs.Scenario.{Setup}
 use Rattle.waveform_reader.specs.Shapes.{given_by, has_begun, twentieths_at, value_at, value_of, wave_value}
 use Rattle.waveform_reader.specs.Sound.{ArePhases, IsAmplitude, IsSetup, IsShape, IsShapeFrom, IsValue, IsWave}

@@ -6,7 +6,7 @@ use Rattle.ld_base.specs.declared.fields.Fields.{Fields}
 use Rattle.ld_base.specs.declared.reason.Reason.{Reason}
 use Rattle.ld_base.specs.declared.reason.Reason.TheVariants as reason
 use Rattle.phasor.specs.Factors.{cosine}
-use Rattle.phasor.specs.Sum.{no_current}
+use Rattle.ld_base.specs.Phases.{no_current}
 use Rattle.row_reader.specs.Rows.{Row}
 use Rattle.row_reader.specs.declared.fault.Fault.{Fault}
 use Rattle.waveform_reader.specs.Names.{kind_of, setting_of}

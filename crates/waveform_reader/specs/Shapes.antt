@@ -3,7 +3,7 @@ use Rattle.std.specs.Prelude.{◌==◌, ℕ, ◌+◌, ◌*◌, ◌/◌, ◌%◌,
 use Rattle.ld_base.specs.declared.fields.Fields.{Fields}
 use Rattle.ld_base.specs.declared.phases.Phases.{Phases}
 use Rattle.phasor.specs.Factors.{cosine}
-use Rattle.phasor.specs.Sum.{no_current}
+use Rattle.ld_base.specs.Phases.{no_current}
 use Rattle.waveform_reader.specs.declared.shape.Shape.{Shape}
 use Rattle.waveform_reader.specs.declared.shape.Shape.TheVariants as shape
 use Rattle.waveform_reader.specs.declared.shape.ShapeFrom.{ShapeFrom}

@@ -1,7 +1,7 @@
 //! The laws of scenarios, each the contract of a function that does nothing but name the laws on which it rests.
 
 ghost use Rattle.std.specs.Prelude.{◌≡◌, ℕ, ℤ, ◌<◌, ◌≤◌, List, All, AllPairs, Contains, unsigned_abs};
-ghost use Rattle.phasor.specs.Sum.{no_current};
+ghost use Rattle.ld_base.specs.Phases.{no_current};
 ghost use Rattle.pingpong.specs.Clock.{Course, reading};
 ghost use Rattle.pingpong.specs.Journal.{IsJournal};
 ghost use Rattle.pingpong.specs.Reading.{WithinDrift};
