@@ -154,3 +154,7 @@ SendsBy old new t frame (Err wire.NoMemory) = (send_fails old.rules t ≡ false)
 abbrev pub TakesBy : {E : Type 0} → Script → Option Script → ℕ → Result (Option (List ℕ)) E → Type 0
 TakesBy old new t (Ok chunk) = (take_fails old.rules t ≡ false) × (chunk ≡ first_due old.queue t) × (new ≡ Some (after_take old t))
 TakesBy old new t (Err _) = (take_fails old.rules t ≡ true) × (new ≡ Some old)
+
+-- what `quiet_until` of a wire that tells its script answers at a tick
+abbrev pub QuietBy : Script → ℕ → ℕ → Type 0
+QuietBy script t answer = answer ≡ next_tick script t

@@ -4,7 +4,7 @@ ghost use Rattle.std.specs.Prelude.{◌≡◌, ℕ, ◌<◌, ◌≤◌, Option, 
 ghost use Rattle.ld_base.specs.Bits.{line_bits};
 ghost use Rattle.ld_base.specs.Faults.{CountsFaults, CountsSendFaults, next_count};
 ghost use Rattle.ld_base.specs.Memory.{Hand, is_listed, given_at, left_at};
-ghost use Rattle.ld_base.specs.Script.{Script, SendsBy, TakesBy};
+ghost use Rattle.ld_base.specs.Script.{QuietBy, Script, SendsBy, TakesBy};
 
 use crate::{Chunk, Failed, Wire, WireError};
 use std::marker::Model;
@@ -103,6 +103,7 @@ impl Wire for HandWire {
 
     fn quiet_until(&self, at: u64) -> u64
         ensures next { result ≡ at }
+        ensures script { (told : Script) → None ≡ Some told → QuietBy told at result }
         ensures later { at ≤ result }
     {
         at

@@ -3,7 +3,7 @@
 ghost use Rattle.std.specs.Prelude.{◌≡◌, ℕ, ◌<◌, ◌≤◌, Option, None, Some, Ok};
 ghost use Rattle.ld_base.specs.Bits.{line_bits};
 ghost use Rattle.ld_base.specs.Faults.{CountsFaults, CountsSendFaults};
-ghost use Rattle.ld_base.specs.Script.{Script, SendsBy, TakesBy};
+ghost use Rattle.ld_base.specs.Script.{QuietBy, Script, SendsBy, TakesBy};
 ghost use Rattle.ld_base.specs.Ticks.{last_asked};
 
 use crate::{Chunk, Failed};
@@ -49,5 +49,6 @@ pub trait Wire: Drop {
     fn quiet_until(&self, at: u64) -> u64
         requires { at ≤ last_asked }
         ensures next { result ≡ next_tick self.now at }
+        ensures script { (told : Script) → script self.now ≡ Some told → QuietBy told at result }
         ensures later { at ≤ result };
 }

@@ -3,7 +3,7 @@
 ghost use Rattle.std.specs.Prelude.{◌≡◌, ℕ, ◌+◌, ◌<◌, ◌≤◌, [], None, Some, Ok, IfOk, is_ok, fold, if◌then◌else◌};
 ghost use Rattle.ld_base.specs.Bits.{line_bits};
 ghost use Rattle.ld_base.specs.Faults.{CountsFaults, CountsSendFaults};
-ghost use Rattle.ld_base.specs.Script.{Script, SendsBy, TakesBy, acts_at, chunks_of, delay_at, next_tick, queued};
+ghost use Rattle.ld_base.specs.Script.{QuietBy, Script, SendsBy, TakesBy, acts_at, chunks_of, delay_at, next_tick, queued};
 ghost use Rattle.line_world.specs.Wires.{rules_of};
 
 mod chunks;
@@ -107,6 +107,7 @@ impl Wire for ScriptWire {
 
     fn quiet_until(&self, at: u64) -> u64
         ensures next { result ≡ next_tick self.now.script at }
+        ensures script { (told : Script) → Some self.now.script ≡ Some told → QuietBy told at result }
         ensures later { at ≤ result }
     {
         earlier(self.timetable.next_failing(at), self.queue.next_due(at)).unwrap_or(at.max(
