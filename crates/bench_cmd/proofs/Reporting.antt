@@ -1,8 +1,8 @@
 -- What `bench` makes of a scenario, or of a text that is none.
-use Rattle.std.proofs.Common.{◌≡◌, ◌∙◌, ap, refl, sym, ℕ, List, [], ◌∷◌, map, Option, Some, Ok, Err, unwrap_or}
+use Rattle.std.proofs.Common.{◌≡◌, ◌∙◌, ap, refl, sym, ℕ, List, [], ◌∷◌, map, Option, Some, Ok, Err}
 use Rattle.std.proofs.lemmas.List.{map-id}
 use Rattle.std.proofs.lemmas.Simd.{map-map}
-use Rattle.ld_base.specs.Script.{Script, next_tick}
+use Rattle.ld_base.specs.Script.{Script}
 use Rattle.ld_base.specs.declared.fields.Fields.{Fields}
 use Rattle.ld_base.specs.declared.rule.Rule.{Rule}
 use Rattle.row_reader.specs.Rows.{rows_of}
@@ -11,18 +11,12 @@ use Rattle.waveform_reader.specs.Scenario.{Setup, scenario_of}
 use Rattle.line_world.specs.Occasions.{Way, ways}
 use Rattle.line_world.specs.Passes.{Known, Tell, Told, known, known_of}
 use Rattle.line_world.specs.Run.{Directed, Run, lines_of}
-use Rattle.line_world.specs.Wires.{Scripted}
-use Rattle.line_world.specs.Worlds.{TellsNext}
 use Rattle.bench_cmd.specs.ReportText.{bench_text, report_of, report_or}
 use Rattle.bench_cmd.specs.ScriptWires.{wire_of, wires_of}
 
 -- the wires of a scenario tell the scripts of its directed lines
 pub wires_tell : (s : Setup) → map (λ wire. Some wire.script) (wires_of s) ≡ map (λ line. Some line.script) (lines_of s.settings s.rules)
 wires_tell s = map-map (λ wire. Some wire.script) wire_of (lines_of s.settings s.rules)
-
--- and have the next ticks of their scripts
-pub wires_tell_next : TellsNext {W = Scripted} (λ wire. Some wire.script) (λ wire at. next_tick wire.script at)
-wires_tell_next wire script at e = ap (λ (told : Option Script). next_tick (unwrap_or told script) at) e
 
 -- the stations of a line
 abbrev pub told_on : Told → Way

@@ -4,7 +4,7 @@ ghost use Rattle.std.specs.Prelude.{◌≡◌, ◌≤◌, ◌++◌, ◌∷◌, [
 ghost use Rattle.bench_cmd.specs.ReportText.{report_of, totals_of};
 ghost use Rattle.line_world.specs.Occasions.{stations as stations_of, ways};
 ghost use Rattle.line_world.specs.Run.{Run, lines_of};
-ghost use Rattle.line_world.specs.Worlds.{FollowsScript, HasEnded, IsWorld, TellsNext};
+ghost use Rattle.line_world.specs.Worlds.{FollowsScript, HasEnded, IsWorld};
 
 use crate::report_text::report_text;
 use ld_base::{NoMemory, Station, Wire};
@@ -30,7 +30,7 @@ pub fn report<W: Wire>(
     ensures text { IfOk result (λ made. made.1.items ≡ report_of scenario made.0.journal) }
 
     // Over the script wires of the scenario it is the report of its run.
-    ensures run { TellsNext W.script W.next_tick → map W.script wires.items ≡ map (λ line. Some line.script) (lines_of scenario.settings scenario.rules)
+    ensures run { map W.script wires.items ≡ map (λ line. Some line.script) (lines_of scenario.settings scenario.rules)
         → IfOk result (λ made. made.0.journal ≡ Run scenario) }
 {
     let stations = scenario.settings().fields().stations;
@@ -47,7 +47,7 @@ fn run_to_end<W: Wire>(world: &mut World<W>) -> Result<(), NoMemory>
     ensures setup { world.new.setup ≡ world.old.setup }
     ensures ended { OnOk result (HasEnded world.new) }
     ensures world { IsWorld world.new }
-    ensures run { OnOk result (TellsNext W.script W.next_tick → FollowsScript world.old → world.new.journal ≡ Run world.old.setup) }
+    ensures run { OnOk result (FollowsScript world.old → world.new.journal ≡ Run world.old.setup) }
 {
     'running: while let Stepped::Went(_) = world.step()? {}
     Ok(())

@@ -15,9 +15,9 @@ use Rattle.line_world.specs.Occasions.{Moment, moments, moments_at}
 use Rattle.line_world.specs.Occasions.Occasion.{departure}
 use Rattle.line_world.specs.Passes.{Known, Passes, Scene, Tell, Told, counted, known, known_of, scene_of, told}
 use Rattle.line_world.specs.Run.{Directed, Run, State, after, lines_of, run_through, start}
-use Rattle.line_world.specs.Tick.{AreLines, CutShort, IsNextSample, IsSample}
+use Rattle.line_world.specs.Tick.{AreLines, CutShort, IsNextSample, IsSample, TellsNext}
 use Rattle.line_world.specs.World.{Leads}
-use Rattle.line_world.specs.Worlds.{AreIdle, FollowsScript, Grows, Halted, HasDone, HasEnded, IsDue, IsIdle, IsNextDue, IsWorld, TellsNext, Went, World, scene}
+use Rattle.line_world.specs.Worlds.{AreIdle, FollowsScript, Grows, Halted, HasDone, HasEnded, IsDue, IsIdle, IsNextDue, IsWorld, Went, World, scene}
 use Rattle.line_world.specs.Hall.{Hall}
 use Rattle.line_world.specs.Inside.{IsKept, world_of}
 use Rattle.line_world.specs.declared.cable.Cable.{Cable}
@@ -241,22 +241,23 @@ due_is_not_idle w tick due idle =
     (λ wire. let later : tick < tick = All-contains (λ due. tick < due) w.due tick idle.quiet wire in omega arith) other) due
 
 -- lines whose wires tell their scripts are quiet before the next ticks of the wires
-pub quiet_before : {W : Type 0} (faults : W → ℕ) (script : W → Option Script) (next : W → ℕ → ℕ) (from t : ℕ) → TellsNext script next → from ≤ t
-    → (cables : List (Cable W)) → All (λ due. t < due) (map (λ cable. next cable.wire from) cables)
+pub quiet_before : {W : Type 0} (faults : W → ℕ) (script : W → Option Script) (next : W → ℕ → ℕ) (from t : ℕ) → from ≤ t
+    → (cables : List (Cable W)) → All (TellsNext script next from) cables → All (λ due. t < due) (map (λ cable. next cable.wire from) cables)
     → (lines : List Directed) → Tell (map (told faults script) cables) lines → AreQuiet t lines
-quiet_before faults script next from t tells h [] early [] tell = All-nil (IsQuiet t)
-quiet_before faults script next from t tells h [] early (line ∷ lines) tell = absurd (cc)
-quiet_before faults script next from t tells h (cable ∷ cables) early [] tell = absurd (cc)
-quiet_before faults script next from t tells h (cable ∷ cables) early (line ∷ lines) tell =
+quiet_before faults script next from t h [] tells early [] tell = All-nil (IsQuiet t)
+quiet_before faults script next from t h [] tells early (line ∷ lines) tell = absurd (cc)
+quiet_before faults script next from t h (cable ∷ cables) tells early [] tell = absurd (cc)
+quiet_before faults script next from t h (cable ∷ cables) tells early (line ∷ lines) tell =
     let one : known (told faults script cable) ≡ known_of line = cc in
     let others : map known (map (told faults script) cables) ≡ map known_of lines = cc in
     let its : script cable.wire ≡ Some line.script = ap (λ (k : Known). k.script) one in
     let before : t < next_tick line.script from =
-    subst (λ (n : ℕ). t < n) (tells cable.wire line.script from its)
+    subst (λ (n : ℕ). t < n) (All-head (TellsNext script next from) cable cables tells line.script its)
     (All-head (λ due. t < due) (next cable.wire from) (map (λ cable. next cable.wire from) cables) early) in
     All-cons (IsQuiet t) line lines
     (gives_nothing line.script from t h before, stays_as_it_is line.script from t h before)
-    (quiet_before faults script next from t tells h cables (All-tail (λ due. t < due) (next cable.wire from) (map (λ cable. next cable.wire from) cables) early) lines others)
+    (quiet_before faults script next from t h cables (All-tail (TellsNext script next from) cable cables tells)
+    (All-tail (λ due. t < due) (next cable.wire from) (map (λ cable. next cable.wire from) cables) early) lines others)
 
 -- what holds of a scenario, a tick, a journal and some cables holds of equal ones
 pub moved : {C : Type 0} (P : Setup → ℕ → List Entry → C → Type 0) (s t : Setup) (m n : ℕ) (i j : List Entry) (c d : C) → s ≡ t → m ≡ n → i ≡ j → c ≡ d
@@ -319,10 +320,15 @@ module _ {W : Type 0} (faults : W → ℕ) (script : W → Option Script) (next_
   idle_to : (limit : ℕ) → limit ≤ tick → AreIdle old limit
   idle_to limit h = idle_before old inside.samples tick (kept.samples running) due limit h
 
-  quiet_to : (limit : ℕ) → limit ≤ tick → TellsNext script next_tick → (lines : List Directed) → Tell old.wires lines → (t : ℕ) → old.next ≤ t → t < limit
+  -- the lines whose wires tell their scripts have these scripts' next ticks
+  abbrev TellNext : Type 0
+  TellNext = All (TellsNext script next_tick inside.next) cables
+
+  quiet_to : (limit : ℕ) → limit ≤ tick → TellNext → (lines : List Directed) → Tell old.wires lines → (t : ℕ) → old.next ≤ t → t < limit
       → AreQuiet t lines
   quiet_to limit h tells lines tell t low below =
-      quiet_before faults script next_tick inside.next t tells low inside.cables.items ((idle_to limit h t low below).quiet) lines tell
+      quiet_before faults script next_tick inside.next t low inside.cables.items
+      (subst (λ (all : List (Cable W)). All (TellsNext script next_tick inside.next) all) are_cables tells) ((idle_to limit h t low below).quiet) lines tell
 
   pub ends : inside.hall.setup.end ≤ tick → HasEnded old
   ends h = record {
@@ -331,7 +337,7 @@ module _ {W : Type 0} (faults : W → ℕ) (script : W → Option Script) (next_
     leads = idle_on old running old.setup.end kept.world.within (idle_to old.setup.end h) kept.world;
   }
 
-  pub runs_to_the_end : inside.hall.setup.end ≤ tick → TellsNext script next_tick → FollowsScript old → old.journal ≡ Run old.setup
+  pub runs_to_the_end : inside.hall.setup.end ≤ tick → TellNext → FollowsScript old → old.journal ≡ Run old.setup
   runs_to_the_end h tells follows =
       ap (λ (state : State). state.journal)
       (sym (idle_by_script old running old.setup.end kept.world.within (idle_to old.setup.end h) (quiet_to old.setup.end h tells) follows))
@@ -359,7 +365,7 @@ module _ {W : Type 0} (faults : W → ℕ) (script : W → Option Script) (next_
       pub world_went : IsWorld new
       world_went = went old new tick same running due.later early (idle_to tick (omega arith)) next passes kept.world
 
-      pub script_went : TellsNext script next_tick → FollowsScript old → FollowsScript new
+      pub script_went : TellNext → FollowsScript old → FollowsScript new
       script_went tells = went_by_script old new tick same running due.later early (idle_to tick (omega arith)) next passes (quiet_to tick (omega arith) tells)
 
     module _ (next : new.next ≡ tick) (halted : new.halted ≡ true) (cut : CutShort old.setup (moments_at old.setup.settings tick) (scene old) (scene new)) where
@@ -369,5 +375,5 @@ module _ {W : Type 0} (faults : W → ℕ) (script : W → Option Script) (next_
       pub world_stopped : IsWorld new
       world_stopped = stopped old new tick same running due.later early (idle_to tick (omega arith)) next halted cut kept.world
 
-      pub script_stopped : TellsNext script next_tick → FollowsScript old → FollowsScript new
+      pub script_stopped : TellNext → FollowsScript old → FollowsScript new
       script_stopped tells = stopped_by_script old new tick same running due.later early (idle_to tick (omega arith)) next halted cut (quiet_to tick (omega arith) tells)

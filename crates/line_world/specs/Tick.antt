@@ -1,5 +1,6 @@
 -- A tick, as it is carried out.
-use Rattle.std.specs.Prelude.{◌≡◌, ℕ, ◌-◌, ◌<◌, ◌≤◌, List, ◌∷◌, ◌++◌, map}
+use Rattle.std.specs.Prelude.{◌≡◌, ℕ, ◌-◌, ◌<◌, ◌≤◌, List, ◌∷◌, ◌++◌, map, Option, Some}
+use Rattle.ld_base.specs.Script.{QuietBy, Script}
 use Rattle.ld_base.specs.declared.fields.Fields.{Fields}
 use Rattle.waveform_reader.specs.Scenario.{Setup}
 use Rattle.line_world.specs.Occasions.{Moment, Way, ways}
@@ -15,6 +16,10 @@ way_of cable = record { from = cable.from; to = cable.to }
 -- these are the directed lines, in their order
 abbrev pub AreLines : {W : Type 0} → Fields → List (Cable W) → Type 0
 AreLines f cables = map way_of cables ≡ ways f
+
+-- a line whose wire tells its script has that script's next tick from a tick on
+abbrev pub TellsNext : {W : Type 0} → (W → Option Script) → (W → ℕ → ℕ) → ℕ → Cable W → Type 0
+TellsNext script next_tick from cable = (told : Script) → script cable.wire ≡ Some told → QuietBy told from (next_tick cable.wire from)
 
 -- some moments were cut short: the first of those that weren't carried out is a frame that goes out
 pub record CutShort (s : Setup) (these : List Moment) (old new : Scene) : Type 0 where

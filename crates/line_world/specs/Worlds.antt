@@ -1,6 +1,5 @@
 -- A world: where it has come to, and what it stands for.
-use Rattle.std.specs.Prelude.{◌≡◌, ◌⊎◌, ℕ, suc, ◌%◌, ◌<◌, ◌≤◌, Bool, true, false, nat_eq, List, [], ◌++◌, All, Contains, map, slice_index, Option, Some}
-use Rattle.ld_base.specs.Script.{Script, next_tick}
+use Rattle.std.specs.Prelude.{◌≡◌, ◌⊎◌, ℕ, suc, ◌%◌, ◌<◌, ◌≤◌, Bool, true, false, nat_eq, List, [], ◌++◌, All, Contains, map, slice_index}
 use Rattle.pingpong.specs.declared.journal.Entry.{Entry}
 use Rattle.waveform_reader.specs.Scenario.{Setup}
 use Rattle.line_world.specs.Occasions.{Moment, moments, moments_at}
@@ -89,10 +88,6 @@ pub record Grows (old new : World) : Type 0 where
   pub gained : List Entry
   pub journal : new.journal ≡ old.journal ++ gained
   pub faults : map counted new.wires ≡ map (counted_with gained) old.wires
-
--- a wire that tells its script has that script's next tick
-abbrev pub TellsNext : {W : Type 0} → (W → Option Script) → (W → ℕ → ℕ) → Type 0
-TellsNext {W} tells next = (wire : W) (script : Script) (at : ℕ) → tells wire ≡ Some script → next wire at ≡ next_tick script at
 
 -- the least of a number and some others
 pub record IsLeast (number : ℕ) (others : List ℕ) (least : ℕ) : Type 0 where

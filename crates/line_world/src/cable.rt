@@ -1,7 +1,8 @@
 //! The directed lines between the stations.
 
-ghost use Rattle.std.specs.Prelude.{◌≡◌, ℕ, ◌+◌, ◌≤◌, ◌∷◌, [], is_ok, if◌then◌else◌};
+ghost use Rattle.std.specs.Prelude.{◌≡◌, ℕ, ◌+◌, ◌≤◌, ◌∷◌, [], Some, is_ok, if◌then◌else◌};
 ghost use Rattle.c3794_frame.specs.Numbers.{bits_of};
+ghost use Rattle.ld_base.specs.Script.{QuietBy, Script};
 ghost use Rattle.ld_base.specs.declared.fields.Fields.{Fields};
 ghost use Rattle.line_world.specs.Hall.{AreTwo, IsNow};
 ghost use Rattle.line_world.specs.Occasions.Occasion.{arrival, departure};
@@ -33,6 +34,7 @@ impl<W: Wire> Cable<W> {
     pub(crate) fn quiet_until(&self, at: u64) -> u64
         requires { at ≤ 60000000 }
         ensures next { result ≡ W.next_tick self.now.wire at }
+        ensures script { (told : Script) → W.script self.now.wire ≡ Some told → QuietBy told at result }
         ensures later { at ≤ result }
     {
         self.wire.quiet_until(at)

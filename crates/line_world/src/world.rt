@@ -1,6 +1,6 @@
 //! Terminals over wires in true time.
 
-ghost use Rattle.std.specs.Prelude.{◌≡◌, ℕ, ◌-◌, ◌*◌, ◌%◌, ◌<◌, ◌≤◌, [], Err, IfOk, None, Ok, OnErr, Some, false, length, map, slice_get, slice_index, suc, true};
+ghost use Rattle.std.specs.Prelude.{◌≡◌, ℕ, ◌-◌, ◌*◌, ◌%◌, ◌<◌, ◌≤◌, [], All, Err, IfOk, None, Ok, OnErr, Some, false, length, map, slice_get, slice_index, suc, true};
 ghost use Rattle.ld_base.specs.Settings.{setting_fault};
 ghost use Rattle.ld_base.specs.declared.fields.Fields.{Fields};
 ghost use Rattle.line_world.specs.Crossings.{Forged};
@@ -9,8 +9,8 @@ ghost use Rattle.line_world.specs.Occasions.{ways};
 ghost use Rattle.line_world.specs.Passes.{Tell};
 ghost use Rattle.line_world.specs.Report.{Lines};
 ghost use Rattle.line_world.specs.Run.{Run, lines_of};
-ghost use Rattle.line_world.specs.Tick.{AreLines};
-ghost use Rattle.line_world.specs.Worlds.{FollowsScript, Grows, Halted, HasEnded, IsLeast, IsNextDue, IsWorld, TellsNext, Went};
+ghost use Rattle.line_world.specs.Tick.{AreLines, TellsNext};
+ghost use Rattle.line_world.specs.Worlds.{FollowsScript, Grows, Halted, HasEnded, IsLeast, IsNextDue, IsWorld, Went};
 ghost use Rattle.line_world.specs.StationLog.{StationLog};
 ghost use Rattle.line_world.specs.Totals.{TotalOf};
 ghost use Rattle.relay_core.specs.StandsFor.{StandsFor};
@@ -103,8 +103,8 @@ impl<W: Wire> World<W> {
         ensures stays_halted { self.old.halted ≡ true → (result ≡ Err record {}) × (self.new ≡ self.old) }
         ensures grows { Grows self.old self.new }
         ensures world { IsWorld self.new }
-        ensures follows { TellsNext W.script W.next_tick → FollowsScript self.old → FollowsScript self.new }
-        ensures run { TellsNext W.script W.next_tick → FollowsScript self.old → result ≡ Ok Stepped.Ended → self.old.journal ≡ Run self.old.setup }
+        ensures follows { FollowsScript self.old → FollowsScript self.new }
+        ensures run { FollowsScript self.old → result ≡ Ok Stepped.Ended → self.old.journal ≡ Run self.old.setup }
     {
         if self.halted {
             return Err(NoMemory);
@@ -180,7 +180,8 @@ impl<W: Wire> World<W> {
 fn next_due<W: Wire>(cables: &[Cable<W>], s: &Settings, samples: &[u64; 3], next: u64) -> u64
     requires early { next ≤ 20000000 }
     requires samples { (k : ℕ) → suc k ≤ s.now.stations → next ≤ slice_index samples.now k }
-    ensures { IsNextDue s.now.stations next samples.now (map (λ cable. W.next_tick cable.wire next) cables.now) result }
+    ensures due { IsNextDue s.now.stations next samples.now (map (λ cable. W.next_tick cable.wire next) cables.now) result }
+    ensures script { All (TellsNext W.script W.next_tick next) cables.now }
 {
     let stations = usize::from(s.fields().stations);
     let due = with_samples(next_slot(next), &samples[..stations]);
@@ -213,6 +214,7 @@ fn with_wires<W: Wire>(due: u64, cables: &[Cable<W>], next: u64) -> u64
     requires { next ≤ 20000000 }
     ensures least { IsLeast due (map (λ cable. W.next_tick cable.wire next) cables.now) result }
     ensures later { next ≤ due → next ≤ result }
+    ensures script { All (TellsNext W.script W.next_tick next) cables.now }
 {
     let mut least = due;
     for cable in cables {

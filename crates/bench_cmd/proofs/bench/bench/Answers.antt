@@ -1,7 +1,7 @@
 use Rattle.std.proofs.Common.{◌≡◌, ◌∙◌, ap, Some, map}
 use Rattle.line_world.specs.Run.{lines_of}
 use Rattle.bench_cmd.specs.ReportText.{report_of}
-use Rattle.bench_cmd.proofs.Reporting.{bench-fault, bench-report, wires_tell, wires_tell_next}
+use Rattle.bench_cmd.proofs.Reporting.{bench-fault, bench-report, wires_tell}
 use Rattle.bench_cmd.proofs.bench.bench.Goals as goal
 
 pub returns-in_ok-text-in-Ok : goal.returns-in_ok-text-in-Ok
@@ -10,7 +10,7 @@ returns-in_ok-text-in-Ok c =
     let told : map (λ wire. Some wire.script) c.in_ok-wires-in-Ok.wires.items ≡ map (λ line. Some line.script) (lines_of s.settings s.rules) =
     ap (λ wires. map (λ wire. Some wire.script) wires) c.in_ok-wires-in-Ok.ensures ∙ wires_tell s in
     let made = c.in_ok-text-in-Ok.ensures in
-    bench-report c.args.input.now s _ c.in-Ok.ensures.read (made.text ∙ ap (λ journal. report_of s journal) (made.run wires_tell_next told))
+    bench-report c.args.input.now s _ c.in-Ok.ensures.read (made.text ∙ ap (λ journal. report_of s journal) (made.run told))
 
 pub returns-in-Err-Bad : goal.returns-in-Err-Bad
 returns-in-Err-Bad c =

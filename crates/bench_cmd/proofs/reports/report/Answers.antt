@@ -1,11 +1,11 @@
-use Rattle.std.proofs.Common.{◌≡◌, ◌∙◌, ap}
+use Rattle.std.proofs.Common.{◌∙◌, ap}
 use Rattle.line_world.specs.Run.{Run}
 use Rattle.bench_cmd.proofs.Reporting.{tell_lines}
 use Rattle.bench_cmd.proofs.reports.report.Goals as goal
 
 pub returns-clause-run : goal.returns-clause-run
-returns-clause-run g c tells scripts =
+returns-clause-run g c scripts =
     let s = c.args.scenario in
     let made = c.in_ok-world.ensures in
     let told = tell_lines s.settings s.rules c.in_ok-world.world.wires made.ways (made.wires.1 ∙ scripts) in
-    c.in_ok-run_to_end.ensures.run tells (made.follows told) ∙ ap (λ s. Run s) made.setup
+    c.in_ok-run_to_end.ensures.run (made.follows told) ∙ ap (λ s. Run s) made.setup

@@ -1,4 +1,4 @@
-use Rattle.std.proofs.Common.{◌≡◌, ◌∙◌, ap, Ok, arith}
+use Rattle.std.proofs.Common.{◌∙◌, ap, Ok, arith}
 use Rattle.waveform_reader.specs.Scenario.{Setup}
 use Rattle.bench_cmd.proofs.reports.run_to_end.Goals as goal
 
@@ -10,4 +10,4 @@ running-smaller g c =
 pub running-preserved : goal.running-preserved
 running-preserved g c =
     let went = c.in_ok-step.ensures.went c.in-Went.field-0 (ap (λ s. Ok s) c.in-Went.is) in
-    (went.setup ∙ c.running.invariant.0, λ tells follows. c.in_ok-step.ensures.follows tells (c.running.invariant.1 tells follows))
+    (went.setup ∙ c.running.invariant.0, λ follows. c.in_ok-step.ensures.follows (c.running.invariant.1 follows))

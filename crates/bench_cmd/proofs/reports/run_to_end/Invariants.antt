@@ -1,12 +1,11 @@
 use Rattle.std.proofs.Common.{◌≡◌, ◌-◌}
-use Rattle.line_world.specs.Worlds.{FollowsScript, IsWorld, TellsNext}
+use Rattle.line_world.specs.Worlds.{FollowsScript}
 use Rattle.bench_cmd.proofs.reports.run_to_end.Given as goal
 
 -- the world is still one of the scenario, and follows its script where it did
 abbrev pub invariant-running : goal.invariant-running
 invariant-running g l =
-    (l.world.setup ≡ l.fn.world.setup)
-    × (TellsNext g.W.Wire.script g.W.Wire.next_tick → FollowsScript l.fn.world → FollowsScript l.world)
+    (l.world.setup ≡ l.fn.world.setup) × (FollowsScript l.fn.world → FollowsScript l.world)
 
 -- the ticks that are left
 abbrev pub decreases-running : goal.decreases-running

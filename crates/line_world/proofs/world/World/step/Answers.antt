@@ -14,16 +14,16 @@ returns-then-tick-end-clause-ended g c =
     λ _. (
       refl,
       subst HasEnded c.self.view_is (ends g.W.Wire.faults g.W.Wire.script g.W.Wire.next_tick c.self.inside c.self.invariant c.if-self.false c.settings.result.now c.scenario.result.now
-          c.next_due-tick.result c.deref.result.now c.settings.ensures.settings c.scenario.ensures.setup c.deref.ensures.value c.next_due-tick.ensures (omega arith)),
+          c.next_due-tick.result c.deref.result.now c.settings.ensures.settings c.scenario.ensures.setup c.deref.ensures.value c.next_due-tick.ensures.due (omega arith)),
     )
 
 pub returns-then-tick-end-clause-run : goal.returns-then-tick-end-clause-run
 returns-then-tick-end-clause-run g c =
     let end : c.end.result ≡ c.self.inside.hall.setup.end = c.end.ensures ∙ ap (λ (s : Setup). s.end) c.scenario-2.ensures.setup in
-    λ tells follows _. subst (λ (w : World). w.journal ≡ Run w.setup) c.self.view_is
+    λ follows _. subst (λ (w : World). w.journal ≡ Run w.setup) c.self.view_is
     (runs_to_the_end g.W.Wire.faults g.W.Wire.script g.W.Wire.next_tick c.self.inside c.self.invariant c.if-self.false c.settings.result.now c.scenario.result.now
-    c.next_due-tick.result c.deref.result.now c.settings.ensures.settings c.scenario.ensures.setup c.deref.ensures.value c.next_due-tick.ensures
-    (omega arith) tells (subst FollowsScript (sym c.self.view_is) follows))
+    c.next_due-tick.result c.deref.result.now c.settings.ensures.settings c.scenario.ensures.setup c.deref.ensures.value c.next_due-tick.ensures.due
+    (omega arith) c.next_due-tick.ensures.script (subst FollowsScript (sym c.self.view_is) follows))
 
 pub returns-then-is_err-clause-grows : goal.returns-then-is_err-clause-grows
 returns-then-is_err-clause-grows g c =
@@ -36,7 +36,7 @@ carry_out-requires-clause-samples g c =
     λ k few. moved (λ s t _ _. IsNextSample s (suc k) t (slice_index c.self.inside.samples k)) c.self.inside.hall.setup c.make_room.new.self.setup
     c.next_due-tick.result c.of-now.result.tick c.self.inside.hall.journal c.self.inside.hall.journal few few (sym c.make_room.ensures.setup) (sym c.of-now.ensures.tick) refl refl
     (samples_at g.W.Wire.faults g.W.Wire.script g.W.Wire.next_tick c.self.inside c.self.invariant c.if-self.false c.settings.result.now c.scenario.result.now
-    c.next_due-tick.result c.deref.result.now c.settings.ensures.settings c.scenario.ensures.setup c.deref.ensures.value c.next_due-tick.ensures
+    c.next_due-tick.result c.deref.result.now c.settings.ensures.settings c.scenario.ensures.setup c.deref.ensures.value c.next_due-tick.ensures.due
     k (omega (arith, ap (λ (s : Setup). s.settings.stations) c.make_room.ensures.setup)))
 
 pub invariant_of-self-then-is_err-2 : goal.invariant_of-self-then-is_err-2
@@ -59,7 +59,7 @@ invariant_of-self-then-is_err-2 g c =
           (omega (arith, c.self.inside.cables.ok.0)) c.carry_out.ensures.setup c.carry_out.ensures.lines;
       samples = λ e. cc;
       world = world_stopped g.W.Wire.faults g.W.Wire.script g.W.Wire.next_tick c.self.inside c.self.invariant c.if-self.false c.settings.result.now c.scenario.result.now
-          c.next_due-tick.result c.deref.result.now c.settings.ensures.settings c.scenario.ensures.setup c.deref.ensures.value c.next_due-tick.ensures new same (omega arith) refl refl cut;
+          c.next_due-tick.result c.deref.result.now c.settings.ensures.settings c.scenario.ensures.setup c.deref.ensures.value c.next_due-tick.ensures.due new same (omega arith) refl refl cut;
     }
 
 pub returns-then-is_err-2-clause-halted : goal.returns-then-is_err-2-clause-halted
@@ -78,7 +78,7 @@ returns-then-is_err-2-clause-halted g c =
     (omega (arith, c.self.inside.cables.ok.0)) c.carry_out.result (sym c.is_err-2.ensures.value ∙ c.if-is_err-2.true) c.carry_out.ensures.cut in
     subst (λ (w : World). Halted w new) c.self.view_is
     (tick_halted g.W.Wire.faults g.W.Wire.script g.W.Wire.next_tick c.self.inside c.self.invariant c.if-self.false c.settings.result.now c.scenario.result.now
-    c.next_due-tick.result c.deref.result.now c.settings.ensures.settings c.scenario.ensures.setup c.deref.ensures.value c.next_due-tick.ensures new same (omega arith) refl refl cut)
+    c.next_due-tick.result c.deref.result.now c.settings.ensures.settings c.scenario.ensures.setup c.deref.ensures.value c.next_due-tick.ensures.due new same (omega arith) refl refl cut)
 
 pub returns-then-is_err-2-clause-world : goal.returns-then-is_err-2-clause-world
 returns-then-is_err-2-clause-world g c =
@@ -95,7 +95,7 @@ returns-then-is_err-2-clause-world g c =
     c.of-now.result.tick c.deref_mut.result.now c.carry_out.new.cables c.make_room.ensures.setup c.of-now.ensures.tick c.make_room.ensures.journal c.deref_mut.ensures.value
     (omega (arith, c.self.inside.cables.ok.0)) c.carry_out.result (sym c.is_err-2.ensures.value ∙ c.if-is_err-2.true) c.carry_out.ensures.cut in
     world_stopped g.W.Wire.faults g.W.Wire.script g.W.Wire.next_tick c.self.inside c.self.invariant c.if-self.false c.settings.result.now c.scenario.result.now
-    c.next_due-tick.result c.deref.result.now c.settings.ensures.settings c.scenario.ensures.setup c.deref.ensures.value c.next_due-tick.ensures new same (omega arith) refl refl cut
+    c.next_due-tick.result c.deref.result.now c.settings.ensures.settings c.scenario.ensures.setup c.deref.ensures.value c.next_due-tick.ensures.due new same (omega arith) refl refl cut
 
 pub returns-then-is_err-2-clause-follows : goal.returns-then-is_err-2-clause-follows
 returns-then-is_err-2-clause-follows g c =
@@ -111,9 +111,9 @@ returns-then-is_err-2-clause-follows g c =
     let cut = cut_off g.W.Wire.faults g.W.Wire.script c.self.inside.hall.setup c.next_due-tick.result c.self.inside.hall.journal c.self.inside.cables c.make_room.new.self c.carry_out.new.hall
     c.of-now.result.tick c.deref_mut.result.now c.carry_out.new.cables c.make_room.ensures.setup c.of-now.ensures.tick c.make_room.ensures.journal c.deref_mut.ensures.value
     (omega (arith, c.self.inside.cables.ok.0)) c.carry_out.result (sym c.is_err-2.ensures.value ∙ c.if-is_err-2.true) c.carry_out.ensures.cut in
-    λ tells follows. script_stopped g.W.Wire.faults g.W.Wire.script g.W.Wire.next_tick c.self.inside c.self.invariant c.if-self.false c.settings.result.now c.scenario.result.now
-    c.next_due-tick.result c.deref.result.now c.settings.ensures.settings c.scenario.ensures.setup c.deref.ensures.value c.next_due-tick.ensures new same (omega arith) refl refl cut
-    tells (subst FollowsScript (sym c.self.view_is) follows)
+    λ follows. script_stopped g.W.Wire.faults g.W.Wire.script g.W.Wire.next_tick c.self.inside c.self.invariant c.if-self.false c.settings.result.now c.scenario.result.now
+    c.next_due-tick.result c.deref.result.now c.settings.ensures.settings c.scenario.ensures.setup c.deref.ensures.value c.next_due-tick.ensures.due new same (omega arith) refl refl cut
+    c.next_due-tick.ensures.script (subst FollowsScript (sym c.self.view_is) follows)
 
 pub invariant_of-self-2 : goal.invariant_of-self-2
 invariant_of-self-2 g c =
@@ -141,7 +141,7 @@ invariant_of-self-2 g c =
           (suc c.of-now.result.tick) (c.next_due-tick.result + 1) c.self.inside.hall.journal c.self.inside.hall.journal few few (sym c.carry_out.ensures.setup) after refl refl
           (next k (omega (arith, ap (λ (s : Setup). s.settings.stations) c.carry_out.ensures.setup)));
       world = world_went g.W.Wire.faults g.W.Wire.script g.W.Wire.next_tick c.self.inside c.self.invariant c.if-self.false c.settings.result.now c.scenario.result.now
-          c.next_due-tick.result c.deref.result.now c.settings.ensures.settings c.scenario.ensures.setup c.deref.ensures.value c.next_due-tick.ensures new same (omega arith) (omega arith) passes;
+          c.next_due-tick.result c.deref.result.now c.settings.ensures.settings c.scenario.ensures.setup c.deref.ensures.value c.next_due-tick.ensures.due new same (omega arith) (omega arith) passes;
     }
 
 pub returns-clause-went : goal.returns-clause-went
@@ -162,7 +162,7 @@ returns-clause-went g c =
     let is : c.next_due-tick.result ≡ tick = cc in
     subst (λ (t : ℕ). Went c.args.self.now new t) is (subst (λ (w : World). Went w new c.next_due-tick.result) c.self.view_is
     (tick_went g.W.Wire.faults g.W.Wire.script g.W.Wire.next_tick c.self.inside c.self.invariant c.if-self.false c.settings.result.now c.scenario.result.now
-    c.next_due-tick.result c.deref.result.now c.settings.ensures.settings c.scenario.ensures.setup c.deref.ensures.value c.next_due-tick.ensures
+    c.next_due-tick.result c.deref.result.now c.settings.ensures.settings c.scenario.ensures.setup c.deref.ensures.value c.next_due-tick.ensures.due
     new same (omega arith) (omega arith) passes c.if-self.false))
 
 pub returns-clause-world : goal.returns-clause-world
@@ -180,7 +180,7 @@ returns-clause-world g c =
     c.of-now.result.tick c.deref_mut.result.now c.carry_out.new.cables c.make_room.ensures.setup c.of-now.ensures.tick c.make_room.ensures.journal c.deref_mut.ensures.value
     (omega (arith, c.self.inside.cables.ok.0)) c.carry_out.result (sym c.is_err-2.ensures.value ∙ c.if-is_err-2.false) c.carry_out.ensures.passes in
     world_went g.W.Wire.faults g.W.Wire.script g.W.Wire.next_tick c.self.inside c.self.invariant c.if-self.false c.settings.result.now c.scenario.result.now
-    c.next_due-tick.result c.deref.result.now c.settings.ensures.settings c.scenario.ensures.setup c.deref.ensures.value c.next_due-tick.ensures new same (omega arith) (omega arith) passes
+    c.next_due-tick.result c.deref.result.now c.settings.ensures.settings c.scenario.ensures.setup c.deref.ensures.value c.next_due-tick.ensures.due new same (omega arith) (omega arith) passes
 
 pub returns-clause-follows : goal.returns-clause-follows
 returns-clause-follows g c =
@@ -196,27 +196,27 @@ returns-clause-follows g c =
     let passes = passed g.W.Wire.faults g.W.Wire.script c.self.inside.hall.setup c.next_due-tick.result c.self.inside.hall.journal c.self.inside.cables c.make_room.new.self c.carry_out.new.hall
     c.of-now.result.tick c.deref_mut.result.now c.carry_out.new.cables c.make_room.ensures.setup c.of-now.ensures.tick c.make_room.ensures.journal c.deref_mut.ensures.value
     (omega (arith, c.self.inside.cables.ok.0)) c.carry_out.result (sym c.is_err-2.ensures.value ∙ c.if-is_err-2.false) c.carry_out.ensures.passes in
-    λ tells follows. script_went g.W.Wire.faults g.W.Wire.script g.W.Wire.next_tick c.self.inside c.self.invariant c.if-self.false c.settings.result.now c.scenario.result.now
-    c.next_due-tick.result c.deref.result.now c.settings.ensures.settings c.scenario.ensures.setup c.deref.ensures.value c.next_due-tick.ensures new same (omega arith) (omega arith) passes
-    tells (subst FollowsScript (sym c.self.view_is) follows)
+    λ follows. script_went g.W.Wire.faults g.W.Wire.script g.W.Wire.next_tick c.self.inside c.self.invariant c.if-self.false c.settings.result.now c.scenario.result.now
+    c.next_due-tick.result c.deref.result.now c.settings.ensures.settings c.scenario.ensures.setup c.deref.ensures.value c.next_due-tick.ensures.due new same (omega arith) (omega arith) passes
+    c.next_due-tick.ensures.script (subst FollowsScript (sym c.self.view_is) follows)
 
 pub returns-then-is_err-clause-again : goal.returns-then-is_err-clause-again
 returns-then-is_err-clause-again g c =
     let end : c.end.result ≡ c.self.inside.hall.setup.end = c.end.ensures ∙ ap (λ (s : Setup). s.end) c.scenario-2.ensures.setup in
     λ ended. goes_on g.W.Wire.faults g.W.Wire.script g.W.Wire.next_tick c.self.inside c.self.invariant c.if-self.false c.settings.result.now c.scenario.result.now
-    c.next_due-tick.result c.deref.result.now c.settings.ensures.settings c.scenario.ensures.setup c.deref.ensures.value c.next_due-tick.ensures
+    c.next_due-tick.result c.deref.result.now c.settings.ensures.settings c.scenario.ensures.setup c.deref.ensures.value c.next_due-tick.ensures.due
     (omega arith) (subst HasEnded (sym c.self.view_is) ended)
 
 pub returns-then-is_err-2-clause-again : goal.returns-then-is_err-2-clause-again
 returns-then-is_err-2-clause-again g c =
     let end : c.end.result ≡ c.self.inside.hall.setup.end = c.end.ensures ∙ ap (λ (s : Setup). s.end) c.scenario-2.ensures.setup in
     λ ended. goes_on g.W.Wire.faults g.W.Wire.script g.W.Wire.next_tick c.self.inside c.self.invariant c.if-self.false c.settings.result.now c.scenario.result.now
-    c.next_due-tick.result c.deref.result.now c.settings.ensures.settings c.scenario.ensures.setup c.deref.ensures.value c.next_due-tick.ensures
+    c.next_due-tick.result c.deref.result.now c.settings.ensures.settings c.scenario.ensures.setup c.deref.ensures.value c.next_due-tick.ensures.due
     (omega arith) (subst HasEnded (sym c.self.view_is) ended)
 
 pub returns-clause-again : goal.returns-clause-again
 returns-clause-again g c =
     let end : c.end.result ≡ c.self.inside.hall.setup.end = c.end.ensures ∙ ap (λ (s : Setup). s.end) c.scenario-2.ensures.setup in
     λ ended. goes_on g.W.Wire.faults g.W.Wire.script g.W.Wire.next_tick c.self.inside c.self.invariant c.if-self.false c.settings.result.now c.scenario.result.now
-    c.next_due-tick.result c.deref.result.now c.settings.ensures.settings c.scenario.ensures.setup c.deref.ensures.value c.next_due-tick.ensures
+    c.next_due-tick.result c.deref.result.now c.settings.ensures.settings c.scenario.ensures.setup c.deref.ensures.value c.next_due-tick.ensures.due
     (omega arith) (subst HasEnded (sym c.self.view_is) ended)
