@@ -1,10 +1,11 @@
--- The two tables, each proved by one test of all its entries.
-use Rattle.std.proofs.Common.{◌≡◌, ℕ, zero, suc, ◌+◌, ◌-◌, ◌*◌, ◌<◌, Bool, true, false, ◌&&◌, eqb, ltb, cond, List, [], ◌∷◌, length, get_or, refl, arith, zero-add, inl, inr}
+-- The tables, each proved by one test of all its entries.
+use Rattle.std.proofs.Common.{◌≡◌, ℕ, zero, suc, ◌+◌, ◌-◌, ◌*◌, ◌/◌, ◌%◌, ◌<◌, Bool, true, false, ◌&&◌, eqb, ltb, cond, List, [], ◌∷◌, length, get_or, refl, arith, zero-add, inl, inr}
 use Rattle.std.specs.Int.{bit_at}
+use Rattle.std.specs.Prelude.{bit_and}
 use Rattle.std.proofs.lemmas.Bool.{eqb-true, ltb-true, eq-eqb, cases_eq}
 use Rattle.ld_base.specs.Bits.{byte_bit}
 use Rattle.c3794_frame.specs.Nibble.{HasPairs, IsLineByte}
-use Rattle.c3794_frame.specs.declared.nibbles.TheConstants.{LINE_BYTES, NIBBLES}
+use Rattle.c3794_frame.specs.declared.nibbles.TheConstants.{LINE_BYTES, LINE_PAIRS, NIBBLES}
 
 -- a test of each entry, with its index
 each_entry : (ℕ → ℕ → Bool) → ℕ → List ℕ → Bool
@@ -54,6 +55,15 @@ all_lined : each_entry (λ nibble byte. lined byte nibble) 0 LINE_BYTES ≡ true
 unfolding each_entry each_below lined
 all_lined = refl
 
+-- the test of an entry of `LINE_PAIRS`
+pair : ℕ → ℕ → Bool
+pair byte bytes = lined (bytes / 256 % 256) (byte / 16) && lined (bytes % 256) (bit_and byte 15)
+
+-- each entry of `LINE_PAIRS` passes
+all_pairs : each_entry pair 0 LINE_PAIRS ≡ true
+unfolding each_entry each_below lined pair
+all_pairs = refl
+
 -- each entry of `NIBBLES` passes
 all_entries : each_entry entry 0 NIBBLES ≡ true
 unfolding each_entry each_below lined paired entry
@@ -73,6 +83,15 @@ lined_is byte nibble h =
 -- `LINE_BYTES` at each nibble
 pub line_byte_at : (nibble : ℕ) → nibble < 16 → IsLineByte (get_or LINE_BYTES nibble 0) nibble
 line_byte_at nibble within = let h = at_entry (λ nibble byte. lined byte nibble) 0 LINE_BYTES nibble all_lined within in lined_is _ _ (rw zero-add at h)
+
+-- `LINE_PAIRS` at each byte
+pub line_pair_at : (byte : ℕ) → byte < 256
+    → IsLineByte (get_or LINE_PAIRS byte 0 / 256 % 256) (byte / 16) × IsLineByte (get_or LINE_PAIRS byte 0 % 256) (bit_and byte 15)
+unfolding pair
+line_pair_at byte within =
+    let h = at_entry pair 0 LINE_PAIRS byte all_pairs within in
+    let parts = both _ _ (rw zero-add at h) in
+    (lined_is _ _ parts.0, lined_is _ _ parts.1)
 
 -- what passes at one number after the other passes at each below n
 all_below : (test : ℕ → Bool) (n : ℕ) → ((k : ℕ) → k < n → test k ≡ true) → each_below test n ≡ true

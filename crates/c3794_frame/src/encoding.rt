@@ -6,7 +6,7 @@ ghost use Rattle.c3794_frame.specs.FrameOf.{FrameOf, frame_bits};
 
 use crate::Frame;
 use crate::header::header_word;
-use crate::nibbles::line_byte;
+use crate::nibbles::{line_byte, line_pair};
 use ld_base::Words;
 
 // The line bytes of a frame without header and count, no yellow bit and idle payload.
@@ -45,8 +45,9 @@ pub fn encode_bytes(odd: bool, yellow: bool, bytes: &[u8], words: &Words) -> [u8
         bits[3] = 0x95;
     }
     for k in 0..bytes.len() {
-        bits[8 + 2 * k] = line_byte(bytes[k] >> 4);
-        bits[9 + 2 * k] = line_byte(bytes[k] & 0x0F);
+        let [high, low] = line_pair(bytes[k]);
+        bits[8 + 2 * k] = high;
+        bits[9 + 2 * k] = low;
     }
     bits
 }

@@ -21,7 +21,7 @@ loop-k-preserved c =
     let bytes = c.args.bytes.now in
     let at : get_or bytes c.loop-k.k 0 ≡ get_or (filled bytes) c.loop-k.k 0 =
     sym (get_or_append_left bytes (replicate (12 - length bytes) 255) 0 c.loop-k.k c.loop-k-test.true) in
-    encoded_more _ _ _ _ _ _ _ c.loop-k-test.true c.requires.1 c.loop-k.invariant (rw at at c.line_byte-in-loop-k.ensures) (rw at at c.line_byte-in-loop-k-2.ensures)
+    encoded_more _ _ _ _ _ _ _ c.loop-k-test.true c.requires.1 c.loop-k.invariant (rw at at c.line_pair.ensures.high) (rw at at c.line_pair.ensures.low)
 
 pub returns-clause-bits : goal.returns-clause-bits
 returns-clause-bits c =
