@@ -5,10 +5,9 @@ use Rattle.std.proofs.lemmas.List.{map-append, append-nil}
 use Rattle.std.proofs.lemmas.List.Elements.{filter-append}
 use Rattle.std.specs.List.{filter}
 use mathlib.Core.Bool.{beq}
-use lib.Pointwise.{pointwise}
-use Rattle.channel_alarm.specs.Alarms.{Standing, all, differs, place, stands, turns}
+use Rattle.channel_alarm.specs.Alarms.{Standing, all, differs, stands}
 use Rattle.channel_alarm.specs.declared.alarm.Alarm.{Alarm}
-use Rattle.channel_alarm.specs.declared.alarm.Alarm.TheVariants.{Unlocked, Yellow, Silent, Unaligned, Fault}
+use Rattle.channel_alarm.specs.declared.alarm.Alarm.TheVariants.{Unlocked}
 use Rattle.channel_alarm.specs.declared.alarm.Turn.{Turn}
 
 -- the alarm at a place of the order
@@ -47,27 +46,6 @@ differs_test true true = refl
 differs_test true false = refl
 differs_test false true = refl
 differs_test false false = refl
-
--- a state doesn't differ from itself
-differs_self : (on : Bool) → differs on on ≡ false
-differs_self true = refl
-differs_self false = refl
-
--- states that a test finds equal are
-pub same_states : (xs ys : List Bool) → pointwise beq xs ys ≡ true → xs ≡ ys
-same_states [] [] h = refl
-same_states [] (y ∷ ys) h = cc
-same_states (x ∷ xs) [] h = cc
-same_states (true ∷ xs) (true ∷ ys) h = ap (λ zs. true ∷ zs) (same_states xs ys h)
-same_states (true ∷ xs) (false ∷ ys) h = cc
-same_states (false ∷ xs) (true ∷ ys) h = cc
-same_states (false ∷ xs) (false ∷ ys) h = ap (λ zs. false ∷ zs) (same_states xs ys h)
-
--- nothing turns where the state stays
-pub turns_same : (s : Standing) (new : Alarm → Bool) → s.on ≡ map new all → turns (stands s) new ≡ []
-turns_same s new same =
-    ap (λ (on : List Bool). turns (λ alarm. slice_index_or on (place alarm) false) new) same
-    ∙ rw (differs_self (new Unlocked), differs_self (new Yellow), differs_self (new Silent), differs_self (new Unaligned), differs_self (new Fault)) refl
 
 -- of one element more, the front of a list with it
 module _ {A B : Type 0} (p : A → Bool) (f : A → B) (xs : List A) (k : ℕ) (d : A) (h : k < length xs) where

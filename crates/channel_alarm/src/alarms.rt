@@ -1,4 +1,4 @@
-ghost use Rattle.std.specs.Prelude.{◌≡◌, Bool, map};
+ghost use Rattle.std.specs.Prelude.{◌≡◌, Bool, [], IsTrue, ◌↔◌, map};
 ghost use Rattle.channel_alarm.specs.declared.alarm.Alarm.{Alarm};
 ghost use Rattle.channel_alarm.specs.Alarms.{all, all_off, is_on, stands, standing, turns};
 
@@ -47,17 +47,24 @@ impl Alarms {
         }
     }
 
+    /// Whether each alarm is on or off already as these facts have it, so that `update` turns none.
+    pub fn are_steady(&self, f: &Facts) -> bool
+        ensures steady { IsTrue result ↔ (standing self.now.silent (is_on self.now.silent f.now) ≡ self.now) }
+        ensures none { IsTrue result → turns (stands self.now) (is_on self.now.silent f.now) ≡ [] }
+    {
+        states(f, self.silent) == self.on
+    }
+
     /// Turns each alarm on or off by these facts. Tells exactly those that changed, in their order.
     pub fn update(&mut self, f: &Facts) -> ArrayVec<Turn, 5>
         ensures turns { result.items ≡ turns (stands self.old) (is_on self.old.silent f.now) }
         ensures after { self.new ≡ standing self.old.silent (is_on self.old.silent f.now) }
     {
-        let on = states(f, self.silent);
         // Nearly always nothing changes.
-        if on == self.on {
+        if self.are_steady(f) {
             return ArrayVec::new();
         }
-        self.turn(on)
+        self.turn(states(f, self.silent))
     }
 
     // Turns the alarms to these states.

@@ -1,5 +1,5 @@
 -- When a message begins.
-use Rattle.std.proofs.Common.{◌≡◌, ℕ, ◌+◌, ◌≤◌, ◌<◌, Bool, Option, true, false, leb, ◌&&◌, cond, [], ◌∷◌, List, length, reverse, slice_get, Some, None, arith, sym, ap, ◌∙◌, subst}
+use Rattle.std.proofs.Common.{◌≡◌, ℕ, ◌+◌, ◌≤◌, ◌<◌, Bool, Option, true, false, leb, ◌&&◌, cond, [], ◌∷◌, List, length, reverse, slice_get, Some, None, arith, refl, sym, ap, ◌∙◌, subst}
 use Rattle.std.proofs.lemmas.Bool.{false_from_ne_true}
 use Rattle.std.proofs.lemmas.List.{append-nil, nil_from_length, reverse-append}
 use Rattle.ld_base.specs.Message.{Contents}
@@ -11,8 +11,7 @@ use Rattle.payload_map.specs.Sent.{Slot, unsent}
 use Rattle.sample_store.specs.declared.ring.Numbered.{Numbered}
 use Rattle.relay_core.specs.Line.{rules_of}
 use Rattle.relay_core.specs.Sent.{begins, begun_in, can_begin, is_free, number_behind}
-use Rattle.relay_core.specs.Talks.{Begins, Speaks, Talks}
-use Rattle.relay_core.specs.declared.talker.Spoken.{Spoken}
+use Rattle.relay_core.specs.Talks.{Begins, Speaks, Spoken, Talks}
 use Rattle.relay_core.specs.declared.talker.Talker.{Talker}
 use Rattle.relay_core.proofs.Slots.{unsent-is_free}
 
@@ -46,6 +45,15 @@ pub Begins-not : (f : Fields) (t : Talker) (slots : List (Slot Contents)) (m : C
     → Begins f t slots (Some m) None
 Begins-not f t slots m talks can = record {
   is = sym (ap (λ b. cond b (Some m) None) can);
+  sendable = λ m e. absurd (cc);
+  outlet = talks.outlet;
+  next = talks.next ∙ ap (λ ms. number_behind (slice_get (reverse ms) 0)) (sym (append-nil (begun_in slots)));
+}
+
+-- nor where none is ready
+pub Begins-none : (f : Fields) (t : Talker) (slots : List (Slot Contents)) → Talks f t slots → Begins f t slots None None
+Begins-none f t slots talks = record {
+  is = refl;
   sendable = λ m e. absurd (cc);
   outlet = talks.outlet;
   next = talks.next ∙ ap (λ ms. number_behind (slice_get (reverse ms) 0)) (sym (append-nil (begun_in slots)));

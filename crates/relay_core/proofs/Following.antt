@@ -14,7 +14,7 @@ use Rattle.relay_core.specs.Accepted.{Accepted, Exchanges, InForceWith, last_of}
 use Rattle.relay_core.specs.AlarmState.{faulty_after, is_faulty}
 use Rattle.relay_core.specs.Answers.{chosen_by, news_in, news_of, taken_of}
 use Rattle.relay_core.specs.Decided.{values_of}
-use Rattle.relay_core.specs.Follows.{Brings, Follows, chosen_in, exchanges_in, fresh_in, last_after, receipts_in, values_in}
+use Rattle.relay_core.specs.Follows.{Brings, Brought, Follows, chosen_in, exchanges_in, fresh_in, last_after, receipts_in, values_in}
 use Rattle.relay_core.specs.Line.{Gots, Line, Messages, Refusals, bits_from, gots_on, messages_on, refusals_on}
 use Rattle.relay_core.specs.Listens.{Listens, Tells}
 use Rattle.relay_core.specs.Log.{Call, now}
@@ -25,7 +25,6 @@ use Rattle.relay_core.specs.declared.answers.News.{News}
 use Rattle.relay_core.specs.declared.answers.News.TheVariants as news
 use Rattle.relay_core.specs.declared.listener.Listener.{Listener}
 use Rattle.relay_core.specs.declared.listener.Told.{Told}
-use Rattle.relay_core.specs.declared.peer.Brought.{Brought}
 use Rattle.relay_core.specs.declared.peer.Peer.{Peer}
 use Rattle.relay_core.specs.declared.receipt.Receipt.{Receipt}
 use Rattle.relay_core.proofs.Accepting.{Accepted-same, Exchanges-push}

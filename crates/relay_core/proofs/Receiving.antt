@@ -10,14 +10,13 @@ use Rattle.sample_store.proofs.Alongs.{along-push}
 use Rattle.relay_core.specs.Answers.{chosen_by}
 use Rattle.relay_core.specs.Decided.{Offers}
 use Rattle.relay_core.specs.Decides.{Decides}
-use Rattle.relay_core.specs.Follows.{Brings, Follows, values_in}
+use Rattle.relay_core.specs.Follows.{Brings, Brought, Follows, values_in}
 use Rattle.relay_core.specs.Log.{Call, now}
 use Rattle.relay_core.specs.Log.Call.{faults, hears}
 use Rattle.relay_core.specs.StandsFor.{Kept, StandsFor, span_with}
 use Rattle.relay_core.specs.declared.answers.News.{News}
 use Rattle.relay_core.specs.declared.answers.News.TheVariants as news
 use Rattle.relay_core.specs.declared.decider.Decider.{Decider}
-use Rattle.relay_core.specs.declared.peer.Brought.{Brought}
 use Rattle.relay_core.specs.declared.peer.Peer.{Peer}
 use Rattle.relay_core.specs.declared.terminal.Span.{Span}
 use Rattle.relay_core.proofs.Changing.{Follow-set, IsAt, Signal-set, faults-elsewhere, hears-elsewhere, station-at, stations-set}

@@ -19,9 +19,8 @@ use Rattle.relay_core.specs.Listens.{Listens}
 use Rattle.relay_core.specs.Log.{Call, now}
 use Rattle.relay_core.specs.Log.Call.{sends}
 use Rattle.relay_core.specs.Sent.{Begun, Sent, Slots, begins, begun_in, echo_of, frames_sent, message_of}
-use Rattle.relay_core.specs.Talks.{Speaks, Talks}
+use Rattle.relay_core.specs.Talks.{Speaks, Spoken, Talks}
 use Rattle.relay_core.specs.declared.peer.Peer.{Peer}
-use Rattle.relay_core.specs.declared.talker.Spoken.{Spoken}
 use Rattle.relay_core.specs.declared.talker.Talker.{Talker}
 use Rattle.relay_core.proofs.Accepting.{Accepted-same}
 use Rattle.relay_core.proofs.Calls.{Slots-push, added-is, is_faulty-push}

@@ -1,11 +1,14 @@
 -- When what a terminal keeps of a peer follows its log, and what bits of the peer bring.
 use Rattle.std.specs.Prelude.{◌≡◌, ℕ, List, [], ◌∷◌, ◌++◌, map, Option, Some, None, option_map}
 use Rattle.std.specs.Option.{option_to_list}
+use Rattle.bit_sync.specs.declared.told.Got.{Got}
 use Rattle.ld_base.specs.declared.fields.Fields.{Fields}
 use Rattle.offset_track.specs.InForce.{InForce}
 use Rattle.offset_track.specs.Track as track
+use Rattle.offset_track.specs.declared.track.Taken.{Taken}
 use Rattle.pingpong.specs.Exchange.{Stamps, exchange_of}
 use Rattle.relay_message.specs.Messages.{added}
+use Rattle.relay_message.specs.declared.fault.MessageFault.{MessageFault}
 use Rattle.sample_store.specs.Offers.{Offer, Value}
 use Rattle.sample_store.specs.declared.ring.Numbered.{Numbered}
 use Rattle.channel_alarm.specs.Alarms.{standing}
@@ -19,10 +22,10 @@ use Rattle.relay_core.specs.Log.{Call, now}
 use Rattle.relay_core.specs.Log.Call.{sends}
 use Rattle.relay_core.specs.Sent.{Slots}
 use Rattle.relay_core.specs.Talks.{Talks}
+use Rattle.relay_core.specs.declared.answers.Heard.{Heard}
 use Rattle.relay_core.specs.declared.answers.News.{News}
 use Rattle.relay_core.specs.declared.answers.News.TheVariants as news
 use Rattle.relay_core.specs.declared.answers.Outgoing.{Outgoing}
-use Rattle.relay_core.specs.declared.peer.Brought.{Brought}
 use Rattle.relay_core.specs.declared.peer.Peer.{Peer}
 use Rattle.relay_core.specs.declared.receipt.Receipt.{Receipt}
 
@@ -44,6 +47,17 @@ abbrev pub values_in : ℕ → News → Option track.Chosen → List Offer
 values_in peer (news.Accepted m) (Some fresh) = Value fresh peer m.number m.phases ∷ []
 values_in peer (news.Accepted m) None = []
 values_in peer other fresh = []
+
+-- what is told of bits of a peer, and the exchange that is in force where a message is accepted
+pub record Brought : Type 0 where
+  pub frame : Option Got
+  pub news : News
+  pub refused : Option MessageFault
+  pub taken : Option Taken
+  pub fresh : Option track.Chosen
+
+abbrev pub brought_in : Heard → Option track.Chosen → Brought
+brought_in heard fresh = record { frame = heard.frame; news = heard.news; refused = heard.refused; taken = heard.taken; fresh = fresh }
 
 -- what bits of a peer bring
 pub record Brings (f : Fields) (me : ℕ) (log : List Call) (peer : ℕ) (call : Call) (b : Brought) : Type 0 where

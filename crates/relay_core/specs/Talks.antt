@@ -1,5 +1,5 @@
 -- When a talker stands for its slots.
-use Rattle.std.specs.Prelude.{◌≡◌, ◌≤◌, Bool, List, [], ◌∷◌, ◌++◌, All, Option, None, option_map, reverse, slice_get}
+use Rattle.std.specs.Prelude.{◌≡◌, ◌≤◌, ℕ, Bool, List, [], ◌∷◌, ◌++◌, All, Option, None, option_map, reverse, slice_get}
 use Rattle.std.specs.Option.{ForSome, option_to_list}
 use Rattle.ld_base.specs.Message.{Contents}
 use Rattle.ld_base.specs.declared.fields.Fields.{Fields}
@@ -10,7 +10,6 @@ use Rattle.payload_map.specs.Outlet as outlet
 use Rattle.payload_map.specs.Sent.{Slot}
 use Rattle.relay_core.specs.Line.{rules_of}
 use Rattle.relay_core.specs.Sent.{begins, begun_in, frames_sent, number_behind}
-use Rattle.relay_core.specs.declared.talker.Spoken.{Spoken}
 use Rattle.relay_core.specs.declared.talker.Talker.{Talker}
 
 pub record Talks (f : Fields) (t : Talker) (slots : List (Slot Contents)) : Type 0 where
@@ -25,6 +24,11 @@ pub record Begins (f : Fields) (new : Talker) (slots : List (Slot Contents)) (re
   pub sendable : ForSome begun CanBeSent
   pub outlet : outlet.StandsFor new.outlet f.channels (rules_of f).words (relay_slots slots) (option_map spelled begun)
   pub next : new.next ≡ number_behind (slice_get (reverse (begun_in slots ++ option_to_list begun)) 0)
+
+-- the bytes of a frame, and the message that begins in it
+pub record Spoken : Type 0 where
+  pub bytes : List ℕ
+  pub begun : Option Contents
 
 -- one slot more, with a message ready to begin: whether it begins, and the bits of the frame
 pub record Speaks (f : Fields) (new : Talker) (slots : List (Slot Contents)) (ready : Option Contents) (yellow : Bool) (spoken : Spoken) : Type 0 where

@@ -1,5 +1,7 @@
 //! What a terminal answers to its calls.
 
+ghost use Rattle.std.specs.Prelude.{◌≡◌, None, replicate};
+
 use arrayvec::ArrayVec;
 use bit_sync::Got;
 use channel_alarm::Turn;
@@ -51,7 +53,9 @@ pub struct Outgoing {
 
 impl Default for Outgoing {
     /// No bits to station 1.
-    fn default() -> Outgoing {
+    fn default() -> Outgoing
+        ensures { result ≡ record { to = 1; bytes = replicate 32 0; begun = None } }
+    {
         Outgoing {
             to: Station::default(),
             bytes: [0; 32],

@@ -1,6 +1,6 @@
 //! What a terminal keeps of one peer.
 
-ghost use Rattle.std.specs.Prelude.{◌≡◌, ◌≢◌, ◌≤◌, ◌+◌, ◌++◌, ◌∷◌, [], ℕ, List, length, map, option_map};
+ghost use Rattle.std.specs.Prelude.{◌≡◌, ◌≢◌, ◌≤◌, ◌+◌, ◌++◌, ◌∷◌, [], ℕ, List, None, length, map, option_map};
 ghost use Rattle.std.specs.Option.{ForSome, option_to_list};
 ghost use Rattle.ld_base.specs.Message.{Contents, IsEcho};
 ghost use Rattle.ld_base.specs.declared.fields.Fields.{Fields};
@@ -9,7 +9,8 @@ ghost use Rattle.payload_map.specs.Sent.{Slot};
 ghost use Rattle.pingpong.specs.Exchange.{Stamps};
 ghost use Rattle.sample_store.specs.declared.ring.Numbered.{Numbered};
 ghost use Rattle.relay_core.specs.Answers.{news_in, news_of, taken_of};
-ghost use Rattle.relay_core.specs.Follows.{Brings, Follows, SendsSlot, Signals, exchanges_in, fresh_in, last_after};
+ghost use Rattle.relay_core.specs.Follows.{Brings, Follows, SendsSlot, Signals, brought_in, exchanges_in, fresh_in, last_after};
+ghost use Rattle.relay_core.specs.declared.answers.News.TheVariants as news;
 ghost use Rattle.relay_core.specs.Log.{Call};
 ghost use Rattle.relay_core.specs.Log.Call.{faults, hears};
 ghost use Rattle.relay_core.specs.Log as log;
@@ -20,13 +21,11 @@ ghost use Rattle.relay_core.specs.Turned.{facts_kept, told, turned};
 use crate::listener::Listener;
 use crate::receipt::Receipt;
 use crate::talker::Talker;
-use crate::{Change, Changes, News, Outgoing};
-use bit_sync::Got;
+use crate::{Change, Changes, Heard, News, Outgoing};
 use channel_alarm::{Alarms, Facts, Turn};
 use ld_base::{Chunk, Echo, Message, Settings, Station, Ticks};
 use offset_track::{Fresh, Taken, Track};
 use pingpong::{Exchange, exchange_of};
-use relay_message::MessageFault;
 use sample_store::Numbered;
 
 /// Both directions of the line to a peer, the exchanges with it, and its alarms.
@@ -40,17 +39,6 @@ pub(crate) struct Peer {
     last: Option<Receipt>,
     faulty: bool,
     alarms: Alarms,
-}
-
-/// What bits from a peer bring.
-#[derive(Drop)]
-pub(crate) struct Brought {
-    pub(crate) frame: Option<Got>,
-    pub(crate) news: News,
-    pub(crate) refused: Option<MessageFault>,
-    pub(crate) taken: Option<Taken>,
-    /// The exchange in force, where a message was accepted.
-    pub(crate) fresh: Option<Fresh>,
 }
 
 impl Peer {
@@ -71,30 +59,41 @@ impl Peer {
         }
     }
 
-    /// Hears the next bits of the peer's line at the terminal's time.
-    pub(crate) fn hear(&mut self, me: Station, now: Ticks, chunk: &Chunk) -> Brought
+    /// Hears the next bits of the peer's line at the terminal's time, and tells in `heard`, where nothing was told before, what
+    /// they bring. It gives the exchange in force, where a message was accepted.
+    pub(crate) fn hear(
+        &mut self,
+        me: Station,
+        now: Ticks,
+        chunk: &Chunk,
+        heard: &mut Heard,
+    ) -> Option<Fresh>
+        requires nothing { (heard.old.news ≡ news.Nothing) × (heard.old.taken ≡ None) }
         ensures station { self.new.station ≡ self.old.station }
         ensures alarms { self.new.alarms ≡ self.old.alarms }
-        ensures at { ForSome result.fresh (λ chosen. chosen.at ≡ now) }
+        ensures at { ForSome result (λ chosen. chosen.at ≡ now) }
         ensures follows { (f : Fields) (calls : List Call) (at : ℕ) → Follows f me calls self.old
             → now ≡ log.now (calls ++ hears at self.old.station chunk.now ∷ [])
             → Follows f me (calls ++ hears at self.old.station chunk.now ∷ []) self.new }
         ensures brings { (f : Fields) (calls : List Call) (at : ℕ) → Follows f me calls self.old
             → now ≡ log.now (calls ++ hears at self.old.station chunk.now ∷ [])
-            → Brings f me calls self.old.station (hears at self.old.station chunk.now) result }
+            → Brings f me calls self.old.station (hears at self.old.station chunk.now) (brought_in heard.new result) }
+        ensures rest { heard.new ≡ record heard.old { frame = heard.new.frame; news = heard.new.news; refused = heard.new.refused; taken = heard.new.taken } }
     {
         self.faulty = false;
         let told = self.listener.hear(chunk);
+        heard.frame = told.frame;
+        heard.refused = told.refused;
+        // Most frames complete no message.
+        if told.message.is_none() {
+            return None;
+        }
         let news = news_of(self.station, me, &self.last, told.message);
         let (taken, fresh) = exchanged(&mut self.track, &news, now);
         keep(&mut self.last, &news, now);
-        Brought {
-            frame: told.frame,
-            news,
-            refused: told.refused,
-            taken,
-            fresh,
-        }
+        heard.news = news;
+        heard.taken = taken;
+        fresh
     }
 
     /// The frame of the next slot, in which the message of the newest own sample may begin.
@@ -105,12 +104,12 @@ impl Peer {
         // A message that can't begin need not be made.
         let sample = self.ready(newest);
         let ready = message_of(me, self.station, now, &self.last, sample);
-        let spoken = self.talker.slot(ready, !self.listener.locked);
-        let bytes = spoken.bytes;
+        let mut begun = None;
+        let bytes = self.talker.slot(ready, !self.listener.locked, &mut begun);
         Outgoing {
             to: self.station,
             bytes,
-            begun: spoken.begun,
+            begun,
         }
     }
 
@@ -139,7 +138,22 @@ impl Peer {
     }
 
     /// Turns the peer's alarms by what is known at the terminal's time, and adds those that changed to these changes.
+    #[inline(always)]
     pub(crate) fn turn(&mut self, since: Ticks, now: Ticks, changes: &mut Changes)
+        requires { length changes.old.items + 5 ≤ 10 }
+        ensures turned { self.new ≡ turned since now self.old }
+        ensures changes { changes.new.items ≡ changes.old.items ++ told since now self.old }
+    {
+        // Nearly always nothing changes.
+        if !self.alarms.are_steady(&self.facts(since, now)) {
+            self.change(since, now, changes);
+        }
+    }
+
+    // The same where some of them change.
+    #[cold]
+    #[inline(never)]
+    fn change(&mut self, since: Ticks, now: Ticks, changes: &mut Changes)
         requires { length changes.old.items + 5 ≤ 10 }
         ensures turned { self.new ≡ turned since now self.old }
         ensures changes { changes.new.items ≡ changes.old.items ++ told since now self.old }

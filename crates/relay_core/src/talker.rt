@@ -1,6 +1,6 @@
 //! The sending side of a line: from messages to frames.
 
-ghost use Rattle.std.specs.Prelude.{◌≡◌, ◌≤◌, List, [], length, true};
+ghost use Rattle.std.specs.Prelude.{◌≡◌, ◌≤◌, List, [], None, Some, length, true};
 ghost use Rattle.ld_base.specs.Message.{Contents};
 ghost use Rattle.ld_base.specs.declared.fields.Fields.{Fields};
 ghost use Rattle.payload_map.specs.Sent.{Slot};
@@ -19,13 +19,6 @@ pub(crate) struct Talker {
     next: u64,
 }
 
-/// A frame to a peer, and the message that begins in it, where one does.
-#[derive(Clone, Copy, Debug, PartialEq, Eq)]
-pub(crate) struct Spoken {
-    pub(crate) bytes: [u8; 32],
-    pub(crate) begun: Option<Message>,
-}
-
 impl Talker {
     /// Before the first slot.
     pub(crate) fn new(s: &Settings) -> Talker
@@ -38,15 +31,21 @@ impl Talker {
     }
 
     /// The frame of the next slot. The message that is ready begins where none is in flight and its number is above that of the
-    /// last one that began.
-    pub(crate) fn slot(&mut self, ready: Option<Message>, yellow: bool) -> Spoken
-        ensures { (f : Fields) (slots : List (Slot Contents)) → Talks f self.old slots → Speaks f self.new slots ready yellow result }
+    /// last one that began: then it is told in `begun`, where nothing stood.
+    pub(crate) fn slot(
+        &mut self,
+        ready: Option<Message>,
+        yellow: bool,
+        begun: &mut Option<Message>,
+    ) -> [u8; 32]
+        requires { begun.old ≡ None }
+        ensures { (f : Fields) (slots : List (Slot Contents)) → Talks f self.old slots
+            → Speaks f self.new slots ready yellow (record { bytes = result; begun = begun.new }) }
     {
-        let begun = self.begin(ready);
-        Spoken {
-            bytes: self.outlet.slot(yellow),
-            begun,
+        if let Some(message) = ready {
+            self.begin(&message, begun);
         }
+        self.outlet.slot(yellow)
     }
 
     /// Whether a message of that number can begin with the next slot.
@@ -60,16 +59,17 @@ impl Talker {
         self.next <= u64::from(number)
     }
 
-    // Loads the message that is ready, where it begins with the next slot.
-    fn begin(&mut self, ready: Option<Message>) -> Option<Message>
-        ensures { (f : Fields) (slots : List (Slot Contents)) → Talks f self.old slots → Begins f self.new slots ready result }
+    // Loads a message and tells it, where it begins with the next slot. Most slots begin none, and need not carry what this takes.
+    #[inline(never)]
+    fn begin(&mut self, message: &Message, begun: &mut Option<Message>)
+        requires { begun.old ≡ None }
+        ensures { (f : Fields) (slots : List (Slot Contents)) → Talks f self.old slots → Begins f self.new slots (Some message.now) begun.new }
     {
-        let message = ready?;
         if !self.takes(message.number) {
-            return None;
+            return;
         }
-        let _ = self.outlet.load(encode(&message));
+        let _ = self.outlet.load(encode(message));
         self.next = u64::from(message.number) + 1;
-        Some(message)
+        *begun = Some(*message);
     }
 }

@@ -1,6 +1,6 @@
 //! The calls of a terminal.
 
-ghost use Rattle.std.specs.Prelude.{◌≡◌, ◌≢◌, ◌≤◌, ◌++◌, ◌∷◌, [], ℕ, List, IfOk, OnOk, All, ◌<◌, filter, length, map, Some, slice_get, slice_index_or, option_map};
+ghost use Rattle.std.specs.Prelude.{◌≡◌, ◌≢◌, ◌≤◌, ◌++◌, ◌∷◌, [], ℕ, List, IfOk, None, OnOk, All, ◌<◌, filter, length, map, Some, slice_get, slice_index_or, option_map};
 ghost use Rattle.std.specs.List.{flat_map};
 ghost use Rattle.std.specs.Option.{ForSome, option_to_list};
 ghost use Rattle.ld_base.specs.declared.fields.Fields.{Fields};
@@ -16,6 +16,7 @@ ghost use Rattle.relay_core.specs.Log as log;
 ghost use Rattle.relay_core.specs.Log.Call.{faults, hears, samples, sends};
 ghost use Rattle.relay_core.specs.StandsFor.{IsPeerOf, StandsFor, span_with};
 ghost use Rattle.relay_core.specs.Turned.{told, turned};
+ghost use Rattle.relay_core.specs.declared.answers.News.TheVariants as news;
 ghost use Rattle.relay_core.specs.declared.answers.Outgoing.{Outgoing};
 ghost use Rattle.relay_core.specs.declared.peer.Peer.{Peer};
 ghost use Rattle.relay_message.specs.Messages.{added};
@@ -26,7 +27,6 @@ use crate::{Changes, Heard, Judged, News, Outgoing, Sampled, Slotted};
 use arrayvec::ArrayVec;
 use ld_base::{Chunk, NoMemory, Phases, Settings, Station, Ticks};
 use offset_track::Fresh;
-use pingpong::Exchange;
 use sample_store::{Numbered, OwnTaken, Placed};
 use std::alloc::Global;
 use std::marker::Model;
@@ -166,20 +166,11 @@ impl Terminal {
         let (since, now) = (span.since, span.now);
         self.span = Some(span);
         let place = place_of(self.me, peer);
-        let brought = self.peers[place].hear(self.me, now, chunk);
-        let (placed, judged) = put(&mut self.decider, peer, &brought.news, brought.fresh);
-        let mut changes = Changes::new();
-        turn_all(&mut self.peers, since, now, &mut changes);
-        Heard {
-            frame: brought.frame,
-            news: brought.news,
-            refused: brought.refused,
-            taken: brought.taken,
-            chosen: exchange_of(brought.fresh),
-            placed,
-            judged,
-            changes,
-        }
+        let mut heard = nothing_heard();
+        let fresh = self.peers[place].hear(self.me, now, chunk, &mut heard);
+        put(&mut self.decider, peer, fresh, &mut heard);
+        turn_all(&mut self.peers, since, now, &mut heard.changes);
+        heard
     }
 
     /// A call on a wire to or from a peer failed.
@@ -201,6 +192,24 @@ impl Terminal {
     }
 }
 
+// What bits tell that bring nothing.
+fn nothing_heard() -> Heard
+    ensures message { (result.news ≡ news.Nothing) × (result.taken ≡ None) }
+    ensures set { (result.chosen ≡ None) × (result.placed ≡ None) × (result.judged ≡ None) }
+    ensures changes { result.changes.items ≡ [] }
+{
+    Heard {
+        frame: None,
+        news: News::Nothing,
+        refused: None,
+        taken: None,
+        chosen: None,
+        placed: None,
+        judged: None,
+        changes: Changes::new(),
+    }
+}
+
 // A terminal's time with a stamp more.
 fn span_with(span: Option<Span>, stamp: Ticks) -> Span
     ensures { result ≡ span_with span stamp }
@@ -218,33 +227,33 @@ fn span_with(span: Option<Span>, stamp: Ticks) -> Span
 }
 
 // Places the values of a message from a peer that was accepted while an exchange is in force, and judges the set that they
-// complete.
-fn put(
-    decider: &mut Decider,
-    peer: Station,
-    news: &News,
-    fresh: Option<Fresh>,
-) -> (Option<Placed>, Option<Judged>)
+// complete. It tells all this in `heard`, which has the message.
+fn put(decider: &mut Decider, peer: Station, fresh: Option<Fresh>, heard: &mut Heard)
     requires at { ForSome fresh (λ chosen. decider.old.store.now ≤ chosen.at) }
     requires in_range { peer ≤ decider.old.store.fields.stations }
     requires other { peer ≢ decider.old.store.me }
+    requires nothing { (heard.old.chosen ≡ None) × (heard.old.placed ≡ None) × (heard.old.judged ≡ None) }
     ensures settings { (decider.new.store.fields ≡ decider.old.store.fields) × (decider.new.store.me ≡ decider.old.store.me) }
     ensures now { (now : ℕ) → decider.old.store.now ≤ now → ForSome fresh (λ chosen. chosen.at ≤ now) → decider.new.store.now ≤ now }
+    ensures chosen { heard.new.chosen ≡ option_map (λ chosen. chosen.exchange) fresh }
     ensures placed { (f : Fields) (me : ℕ) (offers : List Offer) → Decides f me decider.old offers
-        → flat_map (placed_of f offers) (values_in peer news.now fresh) ≡ option_to_list result.0 }
+        → flat_map (placed_of f offers) (values_in peer heard.old.news fresh) ≡ option_to_list heard.new.placed }
     ensures judged { (f : Fields) (me : ℕ) (offers : List Offer) → Decides f me decider.old offers
-        → judgements f (JudgedSet f me) offers (values_in peer news.now fresh) ≡ option_to_list result.1 }
+        → judgements f (JudgedSet f me) offers (values_in peer heard.old.news fresh) ≡ option_to_list heard.new.judged }
     ensures decides { (f : Fields) (me : ℕ) (offers : List Offer) → Decides f me decider.old offers
-        → Decides f me decider.new (offers ++ values_in peer news.now fresh) }
+        → Decides f me decider.new (offers ++ values_in peer heard.old.news fresh) }
+    ensures rest { heard.new ≡ record heard.old { chosen = heard.new.chosen; placed = heard.new.placed; judged = heard.new.judged } }
 {
-    let News::Accepted(message) = news else {
-        return (None, None);
-    };
     let Some(fresh) = fresh else {
-        return (None, None);
+        return;
+    };
+    heard.chosen = Some(fresh.exchange());
+    let News::Accepted(message) = &heard.news else {
+        return;
     };
     let (placed, judged) = decider.place(fresh, peer, message.number, message.phases);
-    (Some(placed), judged)
+    heard.placed = Some(placed);
+    heard.judged = judged;
 }
 
 // The peers of station `me`, before the first call.
@@ -297,13 +306,6 @@ fn newest_after(newest: Option<Numbered>, own: OwnTaken, v: Phases) -> Option<Nu
     }
 }
 
-// The exchange that was chosen.
-fn exchange_of(fresh: Option<Fresh>) -> Option<Exchange>
-    ensures { result ≡ option_map (λ chosen. chosen.exchange) fresh }
-{
-    Some(fresh?.exchange())
-}
-
 // The frames of the next slot, one to each peer, where there were none before.
 fn send_to_all(
     peers: &mut [Peer],
@@ -325,6 +327,7 @@ fn send_to_all(
 }
 
 // Turns the alarms of every peer, and tells which of them changed, where none were told before.
+#[inline(always)]
 fn turn_all(peers: &mut [Peer], since: Ticks, now: Ticks, changes: &mut Changes)
     requires few { length peers.old ≤ 2 }
     requires none { changes.old.items ≡ [] }
