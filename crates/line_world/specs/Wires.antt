@@ -21,19 +21,11 @@ rules_of from to rules = filter (λ rule. (rule.from == from) && (rule.to == to)
 abbrev pub due_of : ℕ × List ℕ → Due
 due_of chunk = record { due = chunk.0; bits = chunk.1 }
 
--- the chunks of a map by due tick and number, in its order
-abbrev pub in_order : List ((ℕ × ℕ) × List ℕ) → List Due
-in_order entries = map (λ entry. record { due = entry.0.0; bits = entry.1 }) entries
-
 -- a line's rules, and the ticks from one to another that were looked at
 pub record Known : Type 0 where
   pub rules : List Rule
   pub from : ℕ
   pub to : ℕ
-
--- keys by due tick and then by number
-abbrev pub by_key : ℕ × ℕ → ℕ × ℕ → Ordering
-by_key key other = ordering_then (nat_cmp key.0 other.0) (nat_cmp key.1 other.1)
 
 -- what some rules say of each tick from one up to another: their acts, the delay, and the tick at which a `take` fails next
 pub record Stays (rules : List Rule) (acts : List Act) (from to delay : ℕ) (failing : Option ℕ) : Type 0 where

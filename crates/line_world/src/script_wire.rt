@@ -1,6 +1,6 @@
 //! A wire that does what a script says.
 
-ghost use Rattle.std.specs.Prelude.{◌≡◌, ℕ, ◌+◌, ◌<◌, ◌≤◌, [], None, Some, Ok, IfOk, is_ok, fold, if◌then◌else◌};
+ghost use Rattle.std.specs.Prelude.{◌≡◌, ℕ, ◌+◌, ◌^◌, ◌<◌, ◌≤◌, [], None, Some, Ok, IfOk, is_ok, fold, if◌then◌else◌};
 ghost use Rattle.ld_base.specs.Bits.{line_bits};
 ghost use Rattle.ld_base.specs.Faults.{CountsFaults, CountsSendFaults};
 ghost use Rattle.ld_base.specs.Script.{QuietBy, Script, SendsBy, TakesBy, acts_at, chunks_of, delay_at, next_tick, queued};
@@ -10,8 +10,8 @@ mod chunks;
 mod queue;
 mod timetable;
 
-use chunks::chunks;
-use ld_base::{Chunk, Failed, NoMemory, Station, Wire, WireError};
+use chunks::{chunks, whole};
+use ld_base::{Act, Chunk, Failed, NoMemory, Station, Wire, WireError};
 use queue::Queue;
 use std::alloc::Global;
 use std::marker::Model;
@@ -130,6 +130,24 @@ fn carry(
     ensures { queue.new ≡ (if is_ok result then fold queued queue.old (chunks_of (acts_at timetable.now.rules at) (at + delay_at timetable.now.rules at) (line_bits 256 frame.now)) else queue.old) }
 {
     let due = at + u64::from(timetable.delay());
-    let chunks = chunks(alloc, timetable.acts(), due, frame)?;
+    queue_frame(alloc, timetable.acts(), queue, due, frame)
+}
+
+// Queues what these acts leave of a frame, or nothing. The first chunk is due at that tick.
+fn queue_frame(
+    alloc: Global,
+    acts: &[Act],
+    queue: &mut Queue,
+    due: u64,
+    frame: &[u8; 32],
+) -> Result<(), NoMemory>
+    requires { due < 2 ^ 63 }
+    ensures { queue.new ≡ (if is_ok result then fold queued queue.old (chunks_of acts.now due (line_bits 256 frame.now)) else queue.old) }
+{
+    // Mostly nothing is done to a frame.
+    if acts.is_empty() {
+        return queue.add_all(&[(due, whole(frame))]);
+    }
+    let chunks = chunks(alloc, acts, due, frame)?;
     queue.add_all(&chunks)
 }

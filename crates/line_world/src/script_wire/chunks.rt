@@ -11,6 +11,13 @@ use std::alloc::Global;
 /// Bits of a frame.
 const FRAME_BITS: u16 = 256;
 
+/// All bits of a frame.
+pub(crate) fn whole(frame: &[u8; 32]) -> Chunk
+    ensures { result ≡ line_bits 256 frame.now }
+{
+    Chunk::new(FRAME_BITS, *frame).unwrap_or_default()
+}
+
 /// The chunks of a frame under these acts, each with its due tick; the first is due at that tick.
 pub(crate) fn chunks(
     alloc: Global,

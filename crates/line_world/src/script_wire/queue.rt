@@ -1,35 +1,34 @@
 //! Chunks on their way.
 
-ghost use Rattle.std.specs.Prelude.{◌≡◌, ◌+◌, ◌^◌, ◌<◌, ◌≤◌, [], length, fold, map, is_ok, if◌then◌else◌, OnErr, OnOk};
-ghost use Rattle.std.specs.BTreeMap.{keys};
-ghost use Rattle.std.specs.List.{All};
+ghost use Rattle.std.specs.Prelude.{◌≡◌, ◌+◌, ◌<◌, ◌≤◌, [], IsTrue, length, fold, map, is_ok, if◌then◌else◌};
+ghost use Rattle.std.specs.List.{AllWithin};
+ghost use Rattle.std.specs.List.Sorted.{IsNonDecreasingBy};
+ghost use Rattle.std.specs.VecDeque.{deque_capacity, deque_len};
 ghost use Rattle.ld_base.specs.Script.{after_due, first_due, next_due, queued};
-ghost use Rattle.line_world.specs.Wires.{due_of, in_order};
+ghost use Rattle.line_world.specs.Wires.{due_of};
 
 use ld_base::{Chunk, NoMemory};
 use std::alloc::Global;
-use std::collections::BTreeMap;
+use std::collections::VecDeque;
 use std::marker::Model;
 
 /// Chunks by due tick and then by the order of queueing.
 #[derive(Drop)]
 pub(crate) struct Queue {
-    chunks: BTreeMap<(u64, u64), Chunk>,
-    next: u64,
+    chunks: VecDeque<(u64, Chunk)>,
 }
 
 impl Model for Queue {
-    ghost use Rattle.std.specs.Prelude.{List, ◌<◌};
-    ghost use Rattle.std.specs.BTreeMap.{keys};
-    ghost use Rattle.std.specs.List.{All};
+    ghost use Rattle.std.specs.Prelude.{List, map};
+    ghost use Rattle.std.specs.List.Sorted.{IsNonDecreasingBy};
     ghost use Rattle.ld_base.specs.Script.{Due};
-    ghost use Rattle.line_world.specs.Wires.{in_order};
+    ghost use Rattle.line_world.specs.Wires.{due_of};
 
     ghost Value = { List Due };
 
-    ghost view = { λ q. in_order q.chunks.entries };
+    ghost view = { λ q. map due_of q.chunks.items };
 
-    ghost invariant = { λ q. All (λ key. key.1 < q.next) (keys q.chunks) };
+    ghost invariant = { λ q. IsNonDecreasingBy (λ chunk. chunk.0) q.chunks.items };
 }
 
 impl Queue {
@@ -38,8 +37,7 @@ impl Queue {
         ensures { result ≡ [] }
     {
         Queue {
-            chunks: BTreeMap::new(alloc),
-            next: 0,
+            chunks: VecDeque::new(alloc),
         }
     }
 
@@ -47,11 +45,8 @@ impl Queue {
     pub(crate) fn add_all(&mut self, chunks: &[(u64, Chunk)]) -> Result<(), NoMemory>
         ensures { self.new ≡ (if is_ok result then fold queued self.old (map due_of chunks.now) else self.old) }
     {
-        let Some(next) = self.next.checked_add(chunks.len() as u64) else {
-            return Err(NoMemory);
-        };
-        add_from(&mut self.chunks, self.next, chunks)?;
-        self.next = next;
+        self.chunks.reserve(chunks.len())?;
+        put_all(&mut self.chunks, chunks);
         Ok(())
     }
 
@@ -60,11 +55,11 @@ impl Queue {
         ensures chunk { result ≡ first_due self.old at }
         ensures left { self.new ≡ after_due self.old at }
     {
-        let ((due, _), _) = self.chunks.first_key_value()?;
+        let (due, _) = self.chunks.front()?;
         if *due > at {
             return None;
         }
-        let (_, chunk) = self.chunks.pop_first()?;
+        let (_, chunk) = self.chunks.pop_front()?;
         Some(chunk)
     }
 
@@ -72,34 +67,50 @@ impl Queue {
     pub(crate) fn next_due(&self, at: u64) -> Option<u64>
         ensures { result ≡ next_due self.now at }
     {
-        let ((due, _), _) = self.chunks.first_key_value()?;
+        let (due, _) = self.chunks.front()?;
         Some(at.max(*due))
     }
 }
 
-// Adds chunks under the numbers from `next` on, or none.
-fn add_from(
-    all: &mut BTreeMap<(u64, u64), Chunk>,
-    next: u64,
-    chunks: &[(u64, Chunk)],
-) -> Result<(), NoMemory>
-    requires numbered { All (λ key. key.1 < next) (keys all.old) }
-    requires room { next + length chunks.now < 2 ^ 64 }
-    ensures added { OnOk result (in_order all.new.entries ≡ fold queued (in_order all.old.entries) (map due_of chunks.now)) }
-    ensures numbered { OnOk result (All (λ key. key.1 < next + length chunks.now) (keys all.new)) }
-    ensures none { OnErr result (all.new.entries ≡ all.old.entries) }
+// Puts chunks in turn, for which there is room.
+fn put_all(all: &mut VecDeque<(u64, Chunk)>, chunks: &[(u64, Chunk)])
+    requires rises { IsNonDecreasingBy (λ chunk. chunk.0) all.old.items }
+    requires room { deque_len all.old + length chunks.now ≤ deque_capacity all.old }
+    ensures put { map due_of all.new.items ≡ fold queued (map due_of all.old.items) (map due_of chunks.now) }
+    ensures rises { IsNonDecreasingBy (λ chunk. chunk.0) all.new.items }
 {
-    let Some((first, rest)) = chunks.split_first() else {
-        return Ok(());
-    };
-    let (due, chunk) = *first;
-    let key = (due, next);
-    all.insert(key, chunk)?;
-    match add_from(all, next + 1, rest) {
-        Ok(()) => Ok(()),
-        Err(NoMemory) => {
-            all.remove(&key);
-            Err(NoMemory)
-        }
+    for (due, chunk) in chunks {
+        put(all, *due, *chunk);
     }
+}
+
+// Puts a chunk behind all that aren't due later, where there is room.
+fn put(all: &mut VecDeque<(u64, Chunk)>, due: u64, chunk: Chunk)
+    requires rises { IsNonDecreasingBy (λ chunk. chunk.0) all.old.items }
+    requires room { deque_len all.old < deque_capacity all.old }
+    ensures put { map due_of all.new.items ≡ queued (map due_of all.old.items) (record { due = due; bits = chunk }) }
+    ensures rises { IsNonDecreasingBy (λ chunk. chunk.0) all.new.items }
+    ensures len { deque_len all.new ≡ deque_len all.old + 1 }
+    ensures capacity { deque_capacity all.old ≤ deque_capacity all.new }
+{
+    // Mostly none is due later.
+    if is_last(all, due) {
+        all.push_back_reserved((due, chunk));
+        return;
+    }
+    let place = all.partition_point(|(tick, _)| *tick <= due);
+    if all.insert(place, (due, chunk)).is_err() {
+        unreachable!()
+    }
+}
+
+// Whether no chunk is due later.
+fn is_last(all: &VecDeque<(u64, Chunk)>, due: u64) -> bool
+    requires { IsNonDecreasingBy (λ chunk. chunk.0) all.now.items }
+    ensures { IsTrue result → AllWithin (λ chunk. chunk.0 ≤ due) all.now.items 0 (length all.now.items) }
+{
+    let Some((last, _)) = all.back() else {
+        return true;
+    };
+    *last <= due
 }

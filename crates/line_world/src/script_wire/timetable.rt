@@ -91,14 +91,14 @@ impl Timetable {
     pub(crate) fn send_fails(&self) -> bool
         ensures { (t : ℕ) → self.now.from ≤ t → t ≤ self.now.to → result ≡ send_fails self.now.rules t }
     {
-        self.acts.contains(&Act::FailSend)
+        !self.acts.is_empty() && self.acts.contains(&Act::FailSend)
     }
 
     /// Whether a `take` fails in these ticks.
     pub(crate) fn take_fails(&self) -> bool
         ensures { (t : ℕ) → self.now.from ≤ t → t ≤ self.now.to → result ≡ take_fails self.now.rules t }
     {
-        self.acts.contains(&Act::FailTake)
+        !self.acts.is_empty() && self.acts.contains(&Act::FailTake)
     }
 
     /// The least tick from this one on at which a `take` fails.
