@@ -17,7 +17,6 @@ mod SampleTicks
 mod Speaking
 mod Sampling
 mod Leasts
-mod Laying
 mod Idle
 mod Stepping
 mod Beginnings

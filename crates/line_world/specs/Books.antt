@@ -1,5 +1,5 @@
 -- What a book keeps.
-use Rattle.std.specs.Prelude.{◌≡◌, ◌==◌, ℕ, ◌-◌, ◌/◌, min, List, [], None, filter, fold, length, map, not}
+use Rattle.std.specs.Prelude.{◌≡◌, ℕ, ◌-◌, ◌/◌, min, List, [], None, fold, length, map}
 use Rattle.std.specs.Vec.{vec_capacity, vec_len}
 use Rattle.ld_base.specs.Settings.{setting_fault}
 use Rattle.line_world.specs.Book.{Book}
@@ -10,10 +10,6 @@ use Rattle.line_world.specs.declared.book.Book.TheInside.{Inside}
 -- the directed line of a ledger
 abbrev pub way_of : Ledger → Way
 way_of l = record { from = l.from; to = l.to }
-
--- the lines to a station from some others
-abbrev pub ways_to : List ℕ → ℕ → List Way
-ways_to stations to = map (λ from. record { from = from; to = to }) (filter (λ station. not (station == to)) stations)
 
 -- a ledger but for its room
 abbrev pub roomless : Ledger → Ledger

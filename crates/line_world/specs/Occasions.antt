@@ -26,6 +26,10 @@ pub record Way : Type 0 where
   pub from : ℕ
   pub to : ℕ
 
+-- the one from a sender to a receiver
+abbrev pub way_between : ℕ × ℕ → Way
+way_between line = record { from = line.0; to = line.1 }
+
 -- the directed lines, by receiver and then by sender
 abbrev pub ways : Fields → List Way
 ways f = flat_map (λ receiver. map (λ sender. record { from = sender; to = receiver }) (peers f receiver)) (stations f)

@@ -1,7 +1,6 @@
 //! What is told of a run, and what must be known of it to tell more.
 
 ghost use Rattle.std.specs.Prelude.{◌≡◌, ◌≢◌, ◌+◌, ◌-◌, ◌<◌, ◌≤◌, ◌++◌, ◌∷◌, [], ℕ, if◌then◌else◌, List, All, IfOk, None, OnOk, Option, Some, length, map, option_map, slice_get};
-ghost use Rattle.std.specs.List.{flat_map};
 ghost use Rattle.std.specs.Option.{option_to_list};
 ghost use Rattle.std.specs.Vec.{vec_capacity, vec_len};
 ghost use Rattle.ld_base.specs.Settings.{setting_fault};
@@ -15,7 +14,7 @@ ghost use Rattle.relay_core.specs.Log as log;
 ghost use Rattle.relay_core.specs.Log.Call.{faults, hears, samples, sends};
 ghost use Rattle.waveform_reader.specs.Sound.{IsStation};
 ghost use Rattle.line_world.specs.Book.{IsBook, IsHeard, IsSampled, IsSlotted, entry_at};
-ghost use Rattle.line_world.specs.Books.{IsEmpty, roomless, way_of, ways_to};
+ghost use Rattle.line_world.specs.Books.{IsEmpty, roomless, way_of};
 ghost use Rattle.line_world.specs.Ledger.{AreRising};
 ghost use Rattle.line_world.specs.Occasions.{ways};
 ghost use Rattle.line_world.specs.Report.{alarm_line, bound_of, error_of, est_line, set_line};
@@ -27,7 +26,7 @@ use crate::crossing::{Arrival, Crossing, Legs};
 use crate::ledger::Ledger;
 use crate::line::{Line, Total};
 use crate::now::Now;
-use crate::stations::{station, stations_of};
+use crate::stations::{directed_lines, station};
 use bit_sync::Got;
 use ld_base::{Message, NoMemory, Settings, Station, Ticks};
 use offset_track::Taken;
@@ -497,41 +496,13 @@ fn bound_of(drift: u32, time: u64, legs: Legs) -> u128
 
 // The ledgers of the directed lines, in their order.
 fn ledgers_of(alloc: Global, s: &Settings) -> Result<Vec<Ledger>, NoMemory>
-    requires { setting_fault s.now ≡ None }
     ensures ways { IfOk result (λ ledgers. map way_of ledgers.items ≡ ways s.now) }
     ensures empty { IfOk result (λ ledgers. All IsEmpty ledgers.items) }
 {
-    let stations = stations_of(s);
-    ledgers_between(alloc, stations.as_slice())
-}
-
-// The ledgers of the lines between some stations.
-fn ledgers_between(alloc: Global, stations: &[Station]) -> Result<Vec<Ledger>, NoMemory>
-    ensures ways { IfOk result (λ ledgers. map way_of ledgers.items ≡ flat_map (ways_to stations.now) stations.now) }
-    ensures empty { IfOk result (λ ledgers. All IsEmpty ledgers.items) }
-{
-    let mut ledgers = Vec::with_capacity(alloc, 6)?;
-    for to in stations {
-        add_ledgers(alloc, &mut ledgers, stations, *to)?;
+    let lines = directed_lines(s);
+    let mut ledgers = Vec::with_capacity(alloc, lines.len())?;
+    for (from, to) in lines.iter() {
+        ledgers.push(Ledger::new(alloc, *from, *to))?;
     }
     Ok(ledgers)
-}
-
-// Adds the ledgers of the lines to a station.
-fn add_ledgers(
-    alloc: Global,
-    ledgers: &mut Vec<Ledger>,
-    stations: &[Station],
-    to: Station,
-) -> Result<(), NoMemory>
-    ensures ways { OnOk result (map way_of ledgers.new.items
-        ≡ map way_of ledgers.old.items ++ ways_to stations.now to) }
-    ensures empty { OnOk result (All IsEmpty ledgers.old.items → All IsEmpty ledgers.new.items) }
-{
-    for from in stations {
-        if *from != to {
-            ledgers.push(Ledger::new(alloc, *from, to))?;
-        }
-    }
-    Ok(())
 }

@@ -17,6 +17,7 @@ mod world;
 
 pub use line::{Line, Total};
 pub use script_wire::ScriptWire;
+pub use stations::directed_lines;
 pub use world::{Stepped, World};
 
 #[cfg(test)]

@@ -1,8 +1,8 @@
-//! The stations of a line.
+//! The stations of a line, and the directed lines between them.
 
-ghost use Rattle.std.specs.Prelude.{◌≡◌, ◌≤◌, None, ◌≢◌};
+ghost use Rattle.std.specs.Prelude.{◌≡◌, ◌≤◌, None, map};
 ghost use Rattle.ld_base.specs.Settings.{setting_fault};
-ghost use Rattle.line_world.specs.Occasions.{stations};
+ghost use Rattle.line_world.specs.Occasions.{stations, way_between, ways};
 
 use arrayvec::ArrayVec;
 use ld_base::{Settings, Station};
@@ -30,4 +30,24 @@ pub(crate) fn stations_of(s: &Settings) -> ArrayVec<Station, 3>
         all.push(station(3));
     }
     all
+}
+
+/// The directed lines between the stations, sender and receiver, in the order of the receiver and then of the sender.
+pub fn directed_lines(s: &Settings) -> ArrayVec<(Station, Station), 6>
+    ensures { map way_between result.items ≡ ways s.now }
+{
+    let (first, second, third) = (station(1), station(2), station(3));
+    let mut lines = ArrayVec::new();
+    if s.fields().stations == 2 {
+        lines.push((second, first));
+        lines.push((first, second));
+    } else {
+        lines.push((second, first));
+        lines.push((third, first));
+        lines.push((first, second));
+        lines.push((third, second));
+        lines.push((first, third));
+        lines.push((second, third));
+    }
+    lines
 }

@@ -4,6 +4,8 @@ use std::alloc::Global;
 use std::test::Fail;
 use waveform_reader::read;
 
+mod worlds;
+
 // A frame of 32 different bytes.
 const FRAME: [u8; 32] = *b"abcdefghijklmnopqrstuvwxyz012345";
 

@@ -1,8 +1,6 @@
 //! Terminals over wires in true time.
 
-ghost use Rattle.std.specs.Prelude.{◌≡◌, ℕ, ◌-◌, ◌*◌, ◌%◌, ◌<◌, ◌≤◌, [], All, Err, IfOk, None, Ok, OnErr, Some, false, length, map, slice_get, slice_index, suc, true};
-ghost use Rattle.ld_base.specs.Settings.{setting_fault};
-ghost use Rattle.ld_base.specs.declared.fields.Fields.{Fields};
+ghost use Rattle.std.specs.Prelude.{◌≡◌, ℕ, ◌-◌, ◌*◌, ◌%◌, ◌<◌, ◌≤◌, [], All, Err, IfOk, Ok, OnErr, false, length, map, slice_index, suc, true};
 ghost use Rattle.line_world.specs.Crossings.{Forged};
 ghost use Rattle.line_world.specs.Journals.{IsJournalOf};
 ghost use Rattle.line_world.specs.Occasions.{ways};
@@ -22,7 +20,7 @@ use crate::laws::a_world_keeps_a_journal;
 use crate::line::{Line, Total};
 use crate::now::Now;
 use crate::sampler::first_samples;
-use crate::stations::station;
+use crate::stations::directed_lines;
 use crate::tick::{SLOT_TICKS, carry_out};
 use ld_base::{NoMemory, Settings, Station, Wire};
 use pingpong::Entry;
@@ -225,28 +223,15 @@ fn with_wires<W: Wire>(due: u64, cables: &[Cable<W>], next: u64) -> u64
 
 // One cable for each line, with these wires in their order.
 fn cables_of<W: Wire>(alloc: Global, s: &Settings, wires: Vec<W>) -> Result<Vec<Cable<W>>, NoMemory>
-    requires settings { setting_fault s.now ≡ None }
-    requires each { length wires.items ≡ length (ways s.now) }
+    requires { length wires.items ≡ length (ways s.now) }
     ensures lines { IfOk result (λ cables. AreLines s.now cables.items) }
     ensures wires { IfOk result (λ cables. map (λ cable. cable.wire) cables.items ≡ wires.items) }
 {
     let mut cables = Vec::with_capacity(alloc, wires.len())?;
+    let lines = directed_lines(s);
     for wire in wires {
-        let (from, to) = way_at(s.fields().stations, cables.len());
+        let (from, to) = lines[cables.len()];
         cables.push(Cable::new(from, to, wire))?;
     }
     Ok(cables)
-}
-
-// The stations of the line at a place among the lines of so many stations: by receiver and then by sender.
-fn way_at(stations: u8, place: usize) -> (Station, Station)
-    requires stations { (2 ≤ stations) × (stations ≤ 3) }
-    requires place { place < stations * (stations - 1) }
-    ensures { (f : Fields) → f.stations ≡ stations → slice_get (ways f) place ≡ Some (record { from = result.0; to = result.1 }) }
-{
-    let peers = usize::from(stations) - 1;
-    let to = place / peers + 1;
-    let before = place % peers + 1;
-    let from = if before < to { before } else { before + 1 };
-    (station(from as u8), station(to as u8))
 }
