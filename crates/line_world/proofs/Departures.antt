@@ -3,7 +3,7 @@ use Rattle.std.specs.Prelude.{◌==◌, ◌&&◌, ◌||◌, find, is_some, rever
 use Rattle.std.specs.List.{list_any}
 use Rattle.std.specs.Option.{option_to_list}
 use Rattle.std.proofs.Common.{◌≡◌, ◌≢◌, ℕ, suc, ◌≤◌, Bool, true, false, cond, List, [], ◌∷◌, ◌++◌, All, map, Option, None, Some, get_or, inl, inr, refl, ap, sym, subst, ◌∙◌, arith}
-use Rattle.std.proofs.lemmas.Bool.{and_parts, cases_Bool, cases_eq, eq-eqb, eqb-true, ne_eqb}
+use Rattle.std.proofs.lemmas.Bool.{and_parts, cases_Bool, cases_eq, eq-eqb, eqb-true, ne_eqb, or_parts}
 use Rattle.std.proofs.lemmas.List.Elements.{All-head, All-map, All-tail}
 use Rattle.ld_base.specs.Message.{Contents}
 use Rattle.ld_base.specs.Settings.{setting_fault}
@@ -99,6 +99,35 @@ pub rooms-slot : (tick me : ℕ) (heard : ℕ → Option Arrival) (frames : List
     → All (λ l. n ≤ l.room) (map (with_slot tick me heard frames) ledgers)
 rooms-slot tick me heard frames ledgers n each =
     All-map (λ l. n ≤ l.room) (with_slot tick me heard frames) ledgers (λ k d inside. slot-room tick me n heard frames _ (each k d inside))
+
+-- a slot in which no message begins changes no ledger
+is-none : (m : Option Contents) → is_some m ≡ false → m ≡ None
+is-none None none = refl
+is-none (Some m) none = absurd (cc)
+
+begun_to-none : (to : ℕ) (frames : List Outgoing) → list_any (λ o. is_some o.begun) frames ≡ false → begun_to to frames ≡ None
+begun_to-none to [] none = refl
+begun_to-none to (o ∷ frames) none =
+    let parts = or_parts (is_some o.begun) (list_any (λ o. is_some o.begun) frames) none in
+    elim (cases_Bool (o.to == to)) [
+      | inl hit ↦ rw hit (is-none o.begun parts.0)
+      | inr miss ↦ rw miss (begun_to-none to frames parts.1)
+    ]
+
+slot-same : (tick me : ℕ) (heard : ℕ → Option Arrival) (frames : List Outgoing) → list_any (λ o. is_some o.begun) frames ≡ false
+    → (l : Ledger) → with_slot tick me heard frames l ≡ l
+slot-same tick me heard frames none l =
+    ap (λ m. cond (l.from == me) (with_begun tick (heard l.to) m l) l) (begun_to-none l.to frames none) ∙ same (l.from == me)
+  where
+    same : (b : Bool) → cond b l l ≡ l
+    same true = refl
+    same false = refl
+
+pub slot-quiet : (tick me : ℕ) (heard : ℕ → Option Arrival) (frames : List Outgoing) → list_any (λ o. is_some o.begun) frames ≡ false
+    → (ledgers : List Ledger) → map (with_slot tick me heard frames) ledgers ≡ ledgers
+slot-quiet tick me heard frames none [] = refl
+slot-quiet tick me heard frames none (l ∷ ledgers) =
+    ap (λ x. x ∷ map (with_slot tick me heard frames) ledgers) (slot-same tick me heard frames none l) ∙ ap (λ xs. l ∷ xs) (slot-quiet tick me heard frames none ledgers)
 
 -- with the slot each ledger is that of the journal with it
 pub ledgers-slot : (f : Fields) (journal : List Entry) (entry : Entry) (me : ℕ) (call : Call) → Hands entry me call

@@ -1,6 +1,7 @@
 //! What is told of a run, and what must be known of it to tell more.
 
-ghost use Rattle.std.specs.Prelude.{◌≡◌, ◌≢◌, ◌+◌, ◌-◌, ◌<◌, ◌≤◌, ◌++◌, ◌∷◌, [], ℕ, if◌then◌else◌, List, All, IfOk, None, OnOk, Option, Some, length, map, option_map, slice_get};
+ghost use Rattle.std.specs.Prelude.{◌≡◌, ◌≢◌, ◌+◌, ◌-◌, ◌<◌, ◌≤◌, ◌++◌, ◌∷◌, [], ℕ, if◌then◌else◌, List, All, IfOk, None, OnOk, Option, Some, is_some, length, map, option_map, slice_get};
+ghost use Rattle.std.specs.List.{list_any};
 ghost use Rattle.std.specs.Option.{option_to_list};
 ghost use Rattle.std.specs.Vec.{vec_capacity, vec_len};
 ghost use Rattle.ld_base.specs.Settings.{setting_fault};
@@ -137,8 +138,7 @@ impl Book {
             → IsSlotted self.old.settings me (StationLog me journal) (sends (stamp_at me (entry_at now.now (what.Slot me first second)))) slotted.now
             → IsBook self.new (journal ++ entry_at now.now (what.Slot me first second) ∷ []) }
     {
-        let heard = heard_by(&self.ledgers, me);
-        begin_on(&mut self.ledgers, now, me, &heard, &slotted.frames);
+        begin_all(&mut self.ledgers, now, me, &slotted.frames);
         decide(&mut self.lines, now, me, None, &slotted.changes);
     }
 
@@ -312,6 +312,27 @@ fn place_of(stations: u8, from: Station, to: Station) -> usize
         from.get() - 2
     };
     usize::from((to.get() - 1) * (stations - 1) + before)
+}
+
+// The messages that begin in a station's slot.
+fn begin_all(ledgers: &mut [Ledger], now: &Now, me: Station, frames: &[Outgoing])
+    requires { All (λ l. 1 ≤ l.room) ledgers.old }
+    ensures { (heard : ℕ → Option Arrival) × ((peer : ℕ) → 1 ≤ peer → peer ≤ 3 → heard peer ≡ last_on ledgers.old peer me)
+        × (ledgers.new ≡ map (with_slot now.now.tick me heard frames.now) ledgers.old) }
+{
+    // Most slots begin no message.
+    if !begins_any(frames) {
+        return;
+    }
+    let heard = heard_by(ledgers, me);
+    begin_on(ledgers, now, me, &heard, frames);
+}
+
+// Whether a message begins in one of some frames.
+fn begins_any(frames: &[Outgoing]) -> bool
+    ensures { result ≡ list_any (λ o. is_some o.begun) frames.now }
+{
+    frames.iter().any(|outgoing| outgoing.begun.is_some())
 }
 
 // When a station accepted the last message of each of the three.

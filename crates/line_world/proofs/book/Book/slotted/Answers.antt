@@ -1,4 +1,3 @@
-use Rattle.std.specs.Option.{option_and_then}
 use Rattle.std.specs.Vec.{with_items}
 use Rattle.std.proofs.Common.{◌≡◌, ℕ, ◌≤◌, All, None, Option, ap, arith, map, refl, subst, sym, ◌∙◌}
 use Rattle.pingpong.specs.declared.journal.What.TheVariants as what
@@ -7,7 +6,7 @@ use Rattle.relay_core.proofs.Lists.{written-mapped}
 use Rattle.line_world.specs.Book.{IsLedger, entry_at}
 use Rattle.line_world.specs.Books.{way_of}
 use Rattle.line_world.specs.StationLog.{StationLog, stamp_at}
-use Rattle.line_world.specs.Told.{heard_from, last_on, with_slot}
+use Rattle.line_world.specs.Told.{last_on, with_slot}
 use Rattle.line_world.specs.declared.crossing.Arrival.{Arrival}
 use Rattle.line_world.proofs.Accounts.{Forged-same, accepted-none, judged-sends, lines-decided}
 use Rattle.line_world.proofs.Departures.{ledgers-slot, rooms-slot, ways-slot}
@@ -16,8 +15,8 @@ use Rattle.line_world.proofs.Rooms.{room-after, room-each, room-lines}
 use Rattle.line_world.proofs.Tallies.{TotalOf-same, totals-same}
 use Rattle.line_world.proofs.book.Book.slotted.Goals as goal
 
-pub begin_on-requires : goal.begin_on-requires
-begin_on-requires c =
+pub begin_all-requires : goal.begin_all-requires
+begin_all-requires c =
     let room = rw (← c.self.view_is) at c.requires.room in
     subst (All (λ l. 1 ≤ l.room)) (sym c.deref_mut.ensures.value) (room-each 1 _ c.self.inside.ledgers.items room)
 
@@ -29,15 +28,15 @@ decide-requires-clause-room c =
 
 -- the ledgers after the slot
 ledgers : (c : goal.After-decide)
-    → (with_items c.self.inside.ledgers c.begin_on.new.ledgers).items
-    ≡ map (with_slot c.args.now.now.tick c.args.me (heard_from c.heard_by-heard.result) c.deref-2.result.now) c.self.inside.ledgers.items
-ledgers c = written-mapped _ c.self.inside.ledgers _ c.begin_on.new.ledgers c.deref_mut.ensures.value c.begin_on.ensures
+    → (with_items c.self.inside.ledgers c.begin_all.new.ledgers).items
+    ≡ map (with_slot c.args.now.now.tick c.args.me c.begin_all.ensures.0 c.deref.result.now) c.self.inside.ledgers.items
+ledgers c = written-mapped _ c.self.inside.ledgers _ c.begin_all.new.ledgers c.deref_mut.ensures.value c.begin_all.ensures.2
 
 pub invariant_of-self : goal.invariant_of-self
 invariant_of-self c = record {
   settings = c.self.invariant.settings;
   totals = c.self.invariant.totals;
-  ways = ap (map way_of) (ledgers c) ∙ ways-slot c.args.now.now.tick c.args.me (heard_from c.heard_by-heard.result) c.deref-2.result.now c.self.inside.ledgers.items ∙ c.self.invariant.ways;
+  ways = ap (map way_of) (ledgers c) ∙ ways-slot c.args.now.now.tick c.args.me c.begin_all.ensures.0 c.deref.result.now c.self.inside.ledgers.items ∙ c.self.invariant.ways;
 }
 
 pub returns-clause-room : goal.returns-clause-room
@@ -46,7 +45,7 @@ returns-clause-room c =
     rw (← c.self.view_is)
     (room-after _ _ c.self.inside.ledgers.items _ (omega (arith, after.0, after.1))
     (λ n each. subst (All (λ l. n ≤ l.room)) (sym (ledgers c))
-    (rooms-slot c.args.now.now.tick c.args.me (heard_from c.heard_by-heard.result) c.deref-2.result.now c.self.inside.ledgers.items n each)))
+    (rooms-slot c.args.now.now.tick c.args.me c.begin_all.ensures.0 c.deref.result.now c.self.inside.ledgers.items n each)))
 
 pub returns-clause-book : goal.returns-clause-book
 returns-clause-book c =
@@ -58,14 +57,14 @@ returns-clause-book c =
     let log = StationLog me journal in
     let hands = Hands-slot c.args.now.now me first second in
     let none = judged-sends f me log (stamp_at me entry) in
-    let heard : ℕ → Option Arrival = heard_from c.heard_by-heard.result in
+    let heard : ℕ → Option Arrival = c.begin_all.ensures.0 in
     record {
       lines = c.decide.ensures.lines
-          ∙ lines-decided f journal entry me call hands c.self.inside.lines.items None c.deref-3.result.now old.lines refl none (c.deref-3.ensures.0 ∙ is.changes);
+          ∙ lines-decided f journal entry me call hands c.self.inside.lines.items None c.deref-2.result.now old.lines refl none (c.deref-2.ensures.0 ∙ is.changes);
       totals = totals-same f journal entry me call hands c.self.inside.totals old.totals (TotalOf-same f me log call (λ A tells. refl) none);
       forged = old.forged ∙ sym (Forged-same f journal entry refl);
       ledgers = subst (All (IsLedger f _)) (sym (ledgers c))
-          (ledgers-slot f journal entry me call hands c.self.inside.ledgers.items heard c.deref-2.result.now c.self.invariant.settings c.self.invariant.ways
-          (λ peer least most. ap (option_and_then (λ a. a)) (c.heard_by-heard.ensures peer least most) ∙ ap (λ ls. last_on ls peer me) c.deref.ensures.value)
-          (ap (map _) c.deref-2.ensures.0 ∙ is.frames) (accepted-none f journal entry me call hands (λ p. refl)) old.ledgers);
+          (ledgers-slot f journal entry me call hands c.self.inside.ledgers.items heard c.deref.result.now c.self.invariant.settings c.self.invariant.ways
+          (λ peer least most. c.begin_all.ensures.1 peer least most ∙ ap (λ ls. last_on ls peer me) c.deref_mut.ensures.value)
+          (ap (map _) c.deref.ensures.0 ∙ is.frames) (accepted-none f journal entry me call hands (λ p. refl)) old.ledgers);
     })
