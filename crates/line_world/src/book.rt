@@ -161,7 +161,7 @@ impl Book {
         let place = place_of(self.settings.fields().stations, peer, me);
         let ledger = &mut self.ledgers[place];
         let arrival = meet(ledger, now, at, heard);
-        self.forged = count_forged(self.forged, arrival);
+        count_forged(&mut self.forged, arrival);
         estimate(
             &mut self.lines,
             &self.settings,
@@ -246,8 +246,8 @@ fn count_judged(total: &mut Total, judged: Option<Judged>)
         Some(judged) => has_trip(judged),
         None => false,
     };
-    total.sets = count(total.sets, judged.is_some());
-    total.trips = count(total.trips, trips);
+    count(&mut total.sets, judged.is_some());
+    count(&mut total.trips, trips);
 }
 
 // Whether a set trips a phase.
@@ -265,38 +265,33 @@ fn count_heard(total: &mut Total, heard: &Heard)
     ensures { total.new ≡ with_heard total.old heard.now }
 {
     let news = &heard.news;
-    let accepted = matches!(news, News::Accepted(_));
-    let repeated = matches!(news, News::Repeat { .. });
-    let strange = matches!(news, News::Stranger { .. });
-    let slow = heard.taken == Some(Taken::Slow);
-    let bad = matches!(heard.frame, Some(Got::Bad(_)));
-    total.accepted = count(total.accepted, accepted);
-    total.repeats = count(total.repeats, repeated);
-    total.strange = count(total.strange, strange);
-    total.refused = count(total.refused, heard.refused.is_some());
-    total.slow = count(total.slow, slow);
-    total.bad = count(total.bad, bad);
+    count(&mut total.accepted, matches!(news, News::Accepted(_)));
+    count(&mut total.repeats, matches!(news, News::Repeat { .. }));
+    count(&mut total.strange, matches!(news, News::Stranger { .. }));
+    count(&mut total.refused, heard.refused.is_some());
+    count(&mut total.slow, heard.taken == Some(Taken::Slow));
+    count(&mut total.bad, matches!(heard.frame, Some(Got::Bad(_))));
 }
 
-// A count with one more, where that is so.
-fn count(before: u64, one_more: bool) -> u64
-    ensures { result ≡ (if one_more then more before 1 else before) }
+// Counts one more, where that is so.
+fn count(number: &mut u64, one_more: bool)
+    ensures { number.new ≡ more number.old (if one_more then 1 else 0) }
 {
+    let before = *number;
     if one_more {
-        before.saturating_add(1)
-    } else {
-        before
+        *number = before.saturating_add(1);
     }
 }
 
-// A count of messages that aren't honest, with what arrived.
-fn count_forged(forged: u64, arrival: Option<Arrival>) -> u64
-    ensures { result ≡ with_arrival forged arrival }
+// Counts a message that arrived and isn't honest.
+fn count_forged(forged: &mut u64, arrival: Option<Arrival>)
+    ensures { forged.new ≡ with_arrival forged.old arrival }
 {
-    match arrival {
-        Some(arrival) if arrival.began.is_none() => forged.saturating_add(1),
-        _ => forged,
-    }
+    let untrue = match arrival {
+        Some(arrival) => arrival.began.is_none(),
+        None => false,
+    };
+    count(forged, untrue);
 }
 
 // The place of a directed line among those of so many stations: by receiver and then by sender.

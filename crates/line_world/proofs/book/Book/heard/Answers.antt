@@ -105,7 +105,7 @@ returns-clause-book c =
           (omega (arith, c.from.ensures, c.get.ensures.number, c.get.ensures.in_range)) old.totals
           (TotalOf-heard f me peer stamp bits (StationLog me journal) heard is (receipts-length f me peer (StationLog me journal) call heard is))
           (c.count_judged.ensures ∙ ap (λ t. with_judged t heard.judged) c.count_heard.ensures);
-      forged = c.count_forged-self-inside.ensures
+      forged = c.count_forged.ensures
           ∙ ap (λ n. with_arrival n c.meet-arrival.result) old.forged
           ∙ ap (with_arrival (Forged f journal)) (c.meet-arrival.ensures.arrival rising)
           ∙ sym (Forged-push f journal entry _ (arrivals-heard f journal entry me peer stamp bits heard hands is l is_l from to));
