@@ -83,6 +83,3 @@ impl<W: Write> Sink for WriteSink<W> {
         }
     }
 }
-
-#[cfg(test)]
-mod tests;

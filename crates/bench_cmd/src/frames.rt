@@ -70,6 +70,3 @@ fn next_count(begin: Option<u64>, at: u64, bits: u64) -> u16
     };
     (bits - at).min(FRAME_BITS - held) as u16
 }
-
-#[cfg(test)]
-mod tests;

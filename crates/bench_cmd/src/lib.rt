@@ -26,6 +26,3 @@ pub use reports::report;
 pub use runs::run;
 pub use status::Status;
 pub use words::words_of;
-
-#[cfg(test)]
-mod tests;

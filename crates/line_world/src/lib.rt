@@ -19,6 +19,3 @@ pub use line::{Line, Total};
 pub use script_wire::ScriptWire;
 pub use stations::directed_lines;
 pub use world::{Stepped, World};
-
-#[cfg(test)]
-mod tests;

@@ -1,13 +1,14 @@
 //! Worlds over wires that do what a script says, and over wires that give nothing.
 
-ghost use Rattle.std.specs.Prelude.{◌≡◌, IfOk, OnOk};
+ghost use Rattle.std.specs.Prelude.{◌≡◌, OnOk};
 
-use crate::{Line, ScriptWire, Stepped, Total, World, directed_lines};
+use super::{scenario, station, wires_of};
 use channel_alarm::{Alarm, Turn};
-use ld_base::{HandWire, NoMemory, Station, Wire};
+use ld_base::{HandWire, NoMemory, Wire};
+use line_world::{Line, Stepped, Total, World, directed_lines};
 use std::alloc::Global;
 use std::test::Fail;
-use waveform_reader::{Scenario, read};
+use waveform_reader::Scenario;
 
 // Load current between two stations, without the end of the run.
 const LOAD: &str =
@@ -16,13 +17,7 @@ const LOAD: &str =
 // Load current until a tick.
 fn load(alloc: Global, end: u32) -> Result<Scenario, Fail> {
     let text = format!(in alloc; "set,end,{end}\n{LOAD}")?;
-    Ok(read(alloc, text.as_bytes()).ok().ok_or("a scenario")?)
-}
-
-fn station(number: u8) -> Result<Station, Fail>
-    ensures { IfOk result (λ station. station ≡ number) }
-{
-    Ok(Station::new(number).ok_or("a station")?)
+    scenario(alloc, text.as_bytes())
 }
 
 // How many steps a world makes, of at most so many.
@@ -42,11 +37,7 @@ fn steps<W: Wire>(world: &mut World<W>, most: u32) -> Result<u32, NoMemory>
 fn a_run_goes_from_one_tick_that_is_due_to_the_next(rt: HostRuntime) -> Result<(), Fail> {
     let alloc = rt.alloc();
     let scenario = load(alloc, 200_000)?;
-    let mut wires = Vec::new(alloc);
-    for (from, to) in directed_lines(scenario.settings()) {
-        wires.push(ScriptWire::new(alloc, &scenario, from, to)?)?;
-    }
-    assert_eq!(rt; wires.len(), directed_lines(scenario.settings()).len());
+    let wires = wires_of(alloc, &scenario)?;
     let mut world = World::new(alloc, scenario, wires)?;
     for tick in [0, 125, 250, 375, 500, 625, 750, 800, 875] {
         assert_eq!(rt; world.step()?, Stepped::Went(tick));

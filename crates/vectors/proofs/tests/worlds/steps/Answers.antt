@@ -2,7 +2,7 @@ use Rattle.std.proofs.Common.{◌≡◌, ◌∙◌, ℕ, Ok, ap, refl}
 use Rattle.line_world.specs.Worlds.{Went, World}
 use Rattle.line_world.specs.declared.world.Stepped.{Stepped}
 use Rattle.line_world.specs.declared.world.Stepped.TheVariants as stepped
-use Rattle.line_world.proofs.tests.worlds.steps.Goals as goal
+use Rattle.vectors.proofs.tests.worlds.steps.Goals as goal
 
 -- a step that went or that ended is in the same scenario
 same_setup : (s : Stepped) (old new : World) → ((tick : ℕ) → s ≡ stepped.Went tick → Went old new tick) → (s ≡ stepped.Ended → new ≡ old) → new.setup ≡ old.setup

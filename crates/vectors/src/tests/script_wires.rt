@@ -1,10 +1,10 @@
-use crate::ScriptWire;
-use ld_base::{Chunk, Failed, Station, Wire, WireError};
+//! A wire that does what a script says.
+
+use super::{scenario, station};
+use ld_base::{Chunk, Failed, Wire, WireError};
+use line_world::ScriptWire;
 use std::alloc::Global;
 use std::test::Fail;
-use waveform_reader::read;
-
-mod worlds;
 
 // A frame of 32 different bytes.
 const FRAME: [u8; 32] = *b"abcdefghijklmnopqrstuvwxyz012345";
@@ -18,10 +18,8 @@ const HEAD: &str = "set,stations,3\nset,channels,5\nset,end,20000000\n";
 // The wire from station 1 to station 2 in a scenario of these rows behind its settings.
 fn wire(alloc: Global, rows: &str) -> Result<ScriptWire, Fail> {
     let text = format!(in alloc; "{HEAD}{rows}")?;
-    let scenario = read(alloc, text.as_bytes()).ok().ok_or("a scenario")?;
-    let from = Station::new(1).ok_or("station 1")?;
-    let to = Station::new(2).ok_or("station 2")?;
-    Ok(ScriptWire::new(alloc, &scenario, from, to)?)
+    let scenario = scenario(alloc, text.as_bytes())?;
+    Ok(ScriptWire::new(alloc, &scenario, station(1)?, station(2)?)?)
 }
 
 fn send(wire: &mut ScriptWire, at: u64) -> Result<(), WireError> {

@@ -1,20 +1,17 @@
+//! What `frames` tells of the bits of a line.
+
 ghost use Rattle.std.specs.Prelude.{◌≤◌, ◌<◌, length};
 
-use crate::{Status, run};
+use super::{Told, answered};
+use bench_cmd::Status;
 use c3794_frame::{Frame, encode};
-use ld_base::{MemorySink, MemorySource, Words};
+use ld_base::Words;
 use std::alloc::Global;
 use std::test::Fail;
 
-// The text of `frames` with so many channels over an input, and how it ended.
-fn shown(alloc: Global, channels: &[u8], input: &[u8]) -> Result<(Status, Vec<u8>), Fail> {
-    let mut words = Vec::new(alloc);
-    words.push(Vec::from_slice(alloc, b"frames")?)?;
-    words.push(Vec::from_slice(alloc, channels)?)?;
-    let mut source = MemorySource::new(Vec::from_slice(alloc, input)?, Vec::new(alloc));
-    let mut sink = MemorySink::new(65_536, Vec::new(alloc))?;
-    let status = run(alloc, &words, &mut source, &mut sink);
-    Ok((status, Vec::from_slice(alloc, sink.written())?))
+// What `frames` tells with so many channels over an input.
+fn shown(alloc: Global, channels: &[u8], input: &[u8]) -> Result<Told, Fail> {
+    answered(alloc, &[b"frames", channels], input, (&[], &[]), 65_536)
 }
 
 // A frame with that payload.
@@ -49,9 +46,9 @@ fn two_frames_make_a_lock_and_the_second_is_told(rt: HostRuntime) -> Result<(), 
     let mut second = first;
     second[0] = 0xDF;
     let told = shown(rt.alloc(), b"5", [first, second].as_flattened())?;
-    assert_eq!(rt; told.0, Status::Done);
+    assert_eq!(rt; told.status, Status::Done);
     assert_eq!(rt;
-        told.1.as_slice(),
+        told.written.as_slice(),
         b"lock,272\nframe,512,0,ffffffffff\nend,512,locked\n".as_slice()
     );
     Ok(())
@@ -69,8 +66,8 @@ fn an_empty_input_hunts(rt: HostRuntime) -> Result<(), Fail> {
         (b"", Status::Usage, b""),
     ] {
         let told = shown(rt.alloc(), channels, b"")?;
-        assert_eq!(rt; told.0, status, "at {channels:?}");
-        assert_eq!(rt; told.1.as_slice(), text, "at {channels:?}");
+        assert_eq!(rt; told.status, status, "at {channels:?}");
+        assert_eq!(rt; told.written.as_slice(), text, "at {channels:?}");
     }
     Ok(())
 }
@@ -106,13 +103,17 @@ fn a_broken_line_is_told_by_the_byte(rt: HostRuntime) -> Result<(), Fail> {
 bad,1280,count,6\nbad,1536,header\nbad,1792,header\nbad,2048,header\nlost,2048\nlock,2320\n\
 frame,2560,0,ffffffffff\nframe,2816,0,1010101010\nend,2816,locked\n";
     let told = shown(alloc, b"5", &stream)?;
-    assert_eq!(rt; told.1.as_slice(), whole.as_slice());
+    assert_eq!(rt; told.written.as_slice(), whole.as_slice());
     let late = b"lock,280\nframe,520,1,0123456789\nframe,776,0,abcdef00ff\nbad,1032,pair,72\n\
 bad,1288,count,6\nbad,1544,header\nbad,1800,header\nbad,2056,header\nlost,2056\nlock,2328\n\
 frame,2568,0,ffffffffff\nframe,2824,0,1010101010\nend,2824,locked\n";
     for zeros in 1..8u8 {
         let told = shown(alloc, b"5", &shifted(alloc, &stream, zeros)?)?;
-        assert_eq!(rt; told.1.as_slice(), late.as_slice(), "behind {zeros} zeros");
+        assert_eq!(rt;
+            told.written.as_slice(),
+            late.as_slice(),
+            "behind {zeros} zeros"
+        );
     }
     Ok(())
 }
@@ -137,7 +138,7 @@ fn a_line_that_is_cut_off_is_told_to_its_end(rt: HostRuntime) -> Result<(), Fail
     ];
     for (count, text) in ends {
         let told = shown(alloc, b"5", &stream[..count.min(stream.len())])?;
-        assert_eq!(rt; told.1.as_slice(), text, "at {count}");
+        assert_eq!(rt; told.written.as_slice(), text, "at {count}");
     }
     Ok(())
 }
@@ -158,9 +159,9 @@ fn a_message_in_frames_is_told(rt: HostRuntime) -> Result<(), Fail> {
     let message =
         *b"\xD5\x94\x12\x00\0\0\0\x01\0\0\0\0\x03\xE8\0\0\0\0\0\0\0\0\0\0\0\0\0\x01\xFF\xFF\0\0\x57\x5E\xFD\x63";
     let told = shown(rt.alloc(), b"12", &carrying(rt.alloc(), &message)?)?;
-    assert_eq!(rt; told.0, Status::Done);
+    assert_eq!(rt; told.status, Status::Done);
     assert_eq!(rt;
-        told.1.as_slice(),
+        told.written.as_slice(),
         b"lock,272\nframe,512,0,d59412000000000100000000\nframe,768,0,03e800000000000000000000\n\
 frame,1024,0,00000001ffff0000575efd63\nmessage,1024,1,2,1,1000,-,-,1,-1,0\nend,1024,locked\n"
             .as_slice()
@@ -195,7 +196,7 @@ fn messages_and_refusals_have_their_lines(rt: HostRuntime) -> Result<(), Fail> {
     ];
     for (message, lines) in rows {
         let told = shown(rt.alloc(), b"12", &carrying(rt.alloc(), message)?)?;
-        assert!(rt; told.1.ends_with(lines), "at {lines:?}");
+        assert!(rt; told.written.ends_with(lines), "at {lines:?}");
     }
     Ok(())
 }
@@ -205,7 +206,7 @@ fn a_larger_input_has_no_text(rt: HostRuntime) -> Result<(), Fail> {
     let alloc = rt.alloc();
     let input = vec![in alloc; 0u8; 16_777_217]?;
     let told = shown(alloc, b"5", &input)?;
-    assert_eq!(rt; told.0, Status::TooLarge);
-    assert!(rt; told.1.is_empty());
+    assert_eq!(rt; told.status, Status::TooLarge);
+    assert!(rt; told.written.is_empty());
     Ok(())
 }

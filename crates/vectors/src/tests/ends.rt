@@ -1,7 +1,8 @@
+//! Runs over readers and writers whose calls end in turn as a list says.
+
 ghost use Rattle.std.specs.Prelude.{◌≤◌, IfOk};
 
-use super::{ReadSource, WriteSink};
-use crate::{Status, run};
+use bench_cmd::{ReadSource, Status, WriteSink, run};
 use ld_base::{Failed, MemorySink, MemorySource, Sink, Source};
 use std::alloc::Global;
 use std::io::{self, ErrorKind, Read, Write};

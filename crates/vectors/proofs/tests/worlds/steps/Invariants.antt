@@ -1,5 +1,5 @@
 use Rattle.std.proofs.Common.{◌≡◌}
-use Rattle.line_world.proofs.tests.worlds.steps.Given as goal
+use Rattle.vectors.proofs.tests.worlds.steps.Given as goal
 
 abbrev pub invariant-loop : goal.invariant-loop
 invariant-loop g l = l.world.setup ≡ l.initial.world.setup

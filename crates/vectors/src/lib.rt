@@ -1,0 +1,5 @@
+//! Vectors and whole runs as tests.
+#![tactic(auto)]
+
+#[cfg(test)]
+mod tests;
