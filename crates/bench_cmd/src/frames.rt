@@ -1,7 +1,6 @@
 //! The command `frames`: the frames and messages in line bits.
 
 ghost use Rattle.std.specs.Prelude.{◌≡◌, ◌+◌, ◌<◌, ◌≤◌, length, IfOk};
-ghost use Rattle.std.specs.Option.{ForSome};
 ghost use Rattle.bench_cmd.specs.FramesText.{frames_text};
 ghost use Rattle.bench_cmd.specs.Transfers.{largest_input};
 

@@ -1,4 +1,4 @@
-ghost use Rattle.std.specs.Prelude.{◌≡◌, ◌≤◌, ◌<◌, length};
+ghost use Rattle.std.specs.Prelude.{◌≡◌, ◌≤◌, length};
 ghost use Rattle.ld_base.specs.Words.{AreWords};
 ghost use Rattle.c3794_frame.specs.Frame.{filled};
 ghost use Rattle.c3794_frame.specs.Numbers.{bits_of};

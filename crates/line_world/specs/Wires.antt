@@ -1,8 +1,6 @@
 -- A wire that does what a script says. (This project's own.)
-use Rattle.std.specs.Prelude.{◌≡◌, ℕ, ◌<◌, ◌≤◌, ◌+◌, ◌-◌, ◌&&◌, ◌==◌, nat_lt, if◌then◌else◌, List, map, Option, Some, IfSome}
+use Rattle.std.specs.Prelude.{◌≡◌, ℕ, ◌<◌, ◌≤◌, ◌+◌, ◌-◌, ◌&&◌, ◌==◌, nat_lt, if◌then◌else◌, List, Option, Some, IfSome}
 use Rattle.std.specs.List.{filter, list_any}
-use Rattle.std.specs.Ordering.{nat_cmp, ordering_then}
-use Rattle.std.specs.declared.cmp.Ordering.{Ordering}
 use Rattle.ld_base.specs.Bits.{byte_bit}
 use Rattle.ld_base.specs.Script.{Due, Script, acts_at, delay_at, next_failing, is_take_failure}
 use Rattle.ld_base.specs.declared.rule.Act.{Act}

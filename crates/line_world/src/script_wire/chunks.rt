@@ -1,8 +1,8 @@
 //! What rules do to the bits of a frame.
 
-ghost use Rattle.std.specs.Prelude.{◌≡◌, ℕ, ◌+◌, ◌-◌, ◌<◌, ◌≤◌, ◌^◌, ◌++◌, map, fold, take, drop, slice_index, slice_set, IfOk, OnOk, nat_lt, if◌then◌else◌};
-ghost use Rattle.ld_base.specs.Bits.{byte_bit, line_bit, line_bits};
-ghost use Rattle.ld_base.specs.Script.{chunks_of, cut_at, cut_of, damaged, flipped, repeats, slip_of};
+ghost use Rattle.std.specs.Prelude.{◌≡◌, ℕ, ◌+◌, ◌-◌, ◌<◌, ◌≤◌, ◌^◌, ◌++◌, map, fold, take, drop, slice_index, slice_set, IfOk, OnOk};
+ghost use Rattle.ld_base.specs.Bits.{line_bit, line_bits};
+ghost use Rattle.ld_base.specs.Script.{chunks_of, cut_at, cut_of, flipped, repeats, slip_of};
 ghost use Rattle.line_world.specs.Wires.{due_of, IsJoined};
 
 use ld_base::{Act, Chunk, NoMemory};
