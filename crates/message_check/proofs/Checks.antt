@@ -47,7 +47,7 @@ pub IsCheck-iff : (bytes : List ℕ) (check : ℕ) → AreBytes bytes → IsChec
 IsCheck-iff bytes check h = (check_of-only bytes check h, λ e. subst (IsCheck bytes) (sym e) (check_of-is bytes h))
 
 -- bytes by their places
-AreBytes-by_place : (bytes : List ℕ) → ((i : ℕ) → get_or bytes i 0 < 256) → AreBytes bytes
+pub AreBytes-by_place : (bytes : List ℕ) → ((i : ℕ) → get_or bytes i 0 < 256) → AreBytes bytes
 AreBytes-by_place [] fits = tt
 AreBytes-by_place (byte ∷ bytes) fits = (fits 0, AreBytes-by_place bytes (λ i. fits (suc i)))
 

@@ -1,11 +1,11 @@
 -- Steps of the division that makes a check.
 use Rattle.std.proofs.Common.{◌≡◌, ℕ, ◌+◌, ◌-◌, ◌*◌, ◌%◌, ◌^◌, ◌<◌, ◌≤◌, List, [], ◌∷◌, ◌++◌, length, bit_and, bit_xor, arith, sym, ap, ◌∙◌, subst}
 use Rattle.std.proofs.lemmas.List.{length-append}
-use Rattle.std.proofs.lemmas.List.Sums.{fold-append}
 use Rattle.std.proofs.lemmas.Nat.{and_mask, pow-add, xor_lt}
 use Rattle.std.specs.Int.Bits.{xor_assoc, xor_shifted}
-use Rattle.message_check.specs.Check.{divisor, ones, polynomial, dividend, IsCheck}
+use Rattle.message_check.specs.Check.{divisor, ones, polynomial, dividend, AreBytes, IsCheck}
 use Rattle.message_check.specs.Polynomials.{IsMultiple, IsRemainder}
+use Rattle.message_check.proofs.BytePolynomials.{polynomial-append}
 use Rattle.message_check.proofs.Xor.{xor_cancel, xor_right, xor_shift, xor_not}
 use Rattle.message_check.proofs.Division.{IsMultiple-self, IsRemainder-low, IsRemainder-shift, IsRemainder-step}
 
@@ -62,34 +62,39 @@ IsRemainder-last_turn r byte i s last p =
     (ap (λ j. bit_xor r (byte * 2 ^ 24) * 2 ^ j) last ∙ sym (xor_shift r (byte * 2 ^ 24) 8) ∙ ap (bit_xor (r * 2 ^ 8)) e)
     p
 
--- one byte more in the polynomial
-polynomial-push : (bytes : List ℕ) (byte : ℕ) → polynomial (bytes ++ (byte ∷ [])) ≡ 256 * polynomial bytes + byte
-polynomial-push bytes byte = fold-append (λ sum byte. 256 * sum + byte) 0 bytes (byte ∷ [])
+-- some bytes more in what is divided
+dividend-append : (front bytes : List ℕ) → AreBytes bytes
+    → dividend (front ++ bytes) ≡ bit_xor (dividend front * 2 ^ (8 * length bytes)) (polynomial bytes * 2 ^ 32)
+dividend-append front bytes h =
+    let p = polynomial front in
+    let q = polynomial bytes in
+    let o = ones * 2 ^ (8 * length front) in
+    let k = 8 * length bytes in
+    let more : 8 * length (front ++ bytes) ≡ 8 * length front + k = omega (arith, length-append front bytes) in
+    let power : ones * 2 ^ (8 * length (front ++ bytes)) ≡ o * 2 ^ k =
+    ap (λ j. ones * 2 ^ j) more ∙ ap (λ x. ones * x) (pow-add 2 (8 * length front) k) ∙ omega arith in
+    let turned : p * 2 ^ k * 2 ^ 32 ≡ p * 2 ^ 32 * 2 ^ k = omega arith in
+    ap (λ x. bit_xor (x * 2 ^ 32) (ones * 2 ^ (8 * length (front ++ bytes)))) (polynomial-append front bytes h)
+    ∙ ap (bit_xor (bit_xor (p * 2 ^ k) q * 2 ^ 32)) power
+    ∙ ap (λ x. bit_xor x (o * 2 ^ k)) (sym (xor_shift (p * 2 ^ k) q 32))
+    ∙ ap (λ x. bit_xor (bit_xor x (q * 2 ^ 32)) (o * 2 ^ k)) turned
+    ∙ xor_right (p * 2 ^ 32 * 2 ^ k) (q * 2 ^ 32) (o * 2 ^ k)
+    ∙ ap (λ x. bit_xor x (q * 2 ^ 32)) (xor_shift (p * 2 ^ 32) o k)
 
--- and in what is divided
-dividend-push : (bytes : List ℕ) (byte : ℕ) → byte < 2 ^ 8 → dividend (bytes ++ (byte ∷ [])) ≡ bit_xor (dividend bytes * 2 ^ 8) (byte * 2 ^ 32)
-dividend-push bytes byte h =
-    let p = polynomial bytes in
-    let o = ones * 2 ^ (8 * length bytes) in
-    let joined : polynomial (bytes ++ (byte ∷ [])) ≡ bit_xor (p * 2 ^ 8) byte =
-    polynomial-push bytes byte ∙ omega arith ∙ sym (xor_shifted p 8 byte h) in
-    let more : 8 * length (bytes ++ (byte ∷ [])) ≡ 8 * length bytes + 8 = omega (arith, length-append bytes (byte ∷ [])) in
-    let power : ones * 2 ^ (8 * length (bytes ++ (byte ∷ []))) ≡ o * 2 ^ 8 =
-    ap (λ j. ones * 2 ^ j) more ∙ ap (λ x. ones * x) (pow-add 2 (8 * length bytes) 8) ∙ omega arith in
-    let turned : p * 2 ^ 8 * 2 ^ 32 ≡ p * 2 ^ 32 * 2 ^ 8 = omega arith in
-    ap (λ x. bit_xor (x * 2 ^ 32) (ones * 2 ^ (8 * length (bytes ++ (byte ∷ []))))) joined
-    ∙ ap (bit_xor (bit_xor (p * 2 ^ 8) byte * 2 ^ 32)) power
-    ∙ ap (λ x. bit_xor x (o * 2 ^ 8)) (sym (xor_shift (p * 2 ^ 8) byte 32))
-    ∙ ap (λ x. bit_xor (bit_xor x (byte * 2 ^ 32)) (o * 2 ^ 8)) turned
-    ∙ xor_right (p * 2 ^ 32 * 2 ^ 8) (byte * 2 ^ 32) (o * 2 ^ 8)
-    ∙ ap (λ x. bit_xor x (byte * 2 ^ 32)) (xor_shift (p * 2 ^ 32) o 8)
+-- so the remainder of some bytes more
+pub IsRemainder-append : (front bytes : List ℕ) (r s : ℕ) → AreBytes bytes → IsRemainder 32 divisor (dividend front) r
+    → IsRemainder 32 divisor (bit_xor (r * 2 ^ (8 * length bytes)) (polynomial bytes * 2 ^ 32)) s
+    → IsRemainder 32 divisor (dividend (front ++ bytes)) s
+IsRemainder-append front bytes r s h p q = subst (λ x. IsRemainder 32 divisor x s) (sym (dividend-append front bytes h))
+    (IsRemainder-step 32 divisor (dividend front) r (8 * length bytes) (polynomial bytes * 2 ^ 32) s p q)
 
--- so the remainder of one byte more
+-- and of one byte more
 pub IsRemainder-push : (bytes : List ℕ) (byte r s : ℕ) → byte < 2 ^ 8 → IsRemainder 32 divisor (dividend bytes) r
     → IsRemainder 32 divisor (bit_xor (r * 2 ^ 8) (byte * 2 ^ 32)) s
     → IsRemainder 32 divisor (dividend (bytes ++ (byte ∷ []))) s
-IsRemainder-push bytes byte r s h p q = subst (λ x. IsRemainder 32 divisor x s) (sym (dividend-push bytes byte h))
-    (IsRemainder-step 32 divisor (dividend bytes) r 8 (byte * 2 ^ 32) s p q)
+IsRemainder-push bytes byte r s h p q =
+    let one : byte ≡ polynomial (byte ∷ []) = omega arith in
+    IsRemainder-append bytes (byte ∷ []) r s (h, tt) p (subst (λ x. IsRemainder 32 divisor (bit_xor (r * 2 ^ 8) (x * 2 ^ 32)) s) one q)
 
 -- and its end
 pub IsCheck-not : (bytes : List ℕ) (r : ℕ) → IsRemainder 32 divisor (dividend bytes) r → IsCheck bytes (2 ^ 32 - 1 - r)

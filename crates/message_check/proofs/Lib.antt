@@ -7,4 +7,5 @@ pub mod Division
 pub mod Entries
 pub mod Halving
 pub mod Remainders
+pub mod Words
 pub mod Xor
