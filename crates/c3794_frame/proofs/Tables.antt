@@ -57,7 +57,7 @@ all_lined = refl
 
 -- the test of an entry of `LINE_PAIRS`
 pair : ℕ → ℕ → Bool
-pair byte bytes = lined (bytes / 256 % 256) (byte / 16) && lined (bytes % 256) (bit_and byte 15)
+pair byte bytes = lined (bytes % 256) (byte / 16) && lined (bytes / 256 % 256) (bit_and byte 15)
 
 -- each entry of `LINE_PAIRS` passes
 all_pairs : each_entry pair 0 LINE_PAIRS ≡ true
@@ -86,7 +86,7 @@ line_byte_at nibble within = let h = at_entry (λ nibble byte. lined byte nibble
 
 -- `LINE_PAIRS` at each byte
 pub line_pair_at : (byte : ℕ) → byte < 256
-    → IsLineByte (get_or LINE_PAIRS byte 0 / 256 % 256) (byte / 16) × IsLineByte (get_or LINE_PAIRS byte 0 % 256) (bit_and byte 15)
+    → IsLineByte (get_or LINE_PAIRS byte 0 % 256) (byte / 16) × IsLineByte (get_or LINE_PAIRS byte 0 / 256 % 256) (bit_and byte 15)
 unfolding pair
 line_pair_at byte within =
     let h = at_entry pair 0 LINE_PAIRS byte all_pairs within in

@@ -22,21 +22,24 @@ pub fn encode(f: &Frame, words: &Words) -> [u8; 32]
     ensures frame { FrameOf words.now (bits_of result) f.now }
 {
     let payload = f.payload();
-    encode_bytes(
+    let mut bits = IDLE;
+    encode_into(
         f.odd(),
         f.yellow(),
         &payload[..usize::from(f.channels())],
         words,
-    )
+        &mut bits,
+    );
+    bits
 }
 
-/// The same of the frame that `Frame::new` makes of these bytes.
-pub fn encode_bytes(odd: bool, yellow: bool, bytes: &[u8], words: &Words) -> [u8; 32]
+/// Writes the same of the frame that `Frame::new` makes of these bytes over all that was in `bits`.
+pub fn encode_into(odd: bool, yellow: bool, bytes: &[u8], words: &Words, bits: &mut [u8; 32])
     requires { (1 ≤ length bytes.now) × (length bytes.now ≤ 12) }
-    ensures bits { bits_of result ≡ frame_bits words.now (record { odd = odd; channels = length bytes.now; yellow = yellow; payload = filled bytes.now }) }
+    ensures bits { bits_of bits.new ≡ frame_bits words.now (record { odd = odd; channels = length bytes.now; yellow = yellow; payload = filled bytes.now }) }
     ensures words { AreWords words.now }
 {
-    let mut bits = IDLE;
+    *bits = IDLE;
     let [first, second] = header_word(words, odd).to_be_bytes();
     bits[0] = first;
     bits[1] = second;
@@ -49,5 +52,4 @@ pub fn encode_bytes(odd: bool, yellow: bool, bytes: &[u8], words: &Words) -> [u8
         bits[8 + 2 * k] = high;
         bits[9 + 2 * k] = low;
     }
-    bits
 }

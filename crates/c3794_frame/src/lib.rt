@@ -10,7 +10,7 @@ pub mod laws;
 mod nibbles;
 
 pub use decoding::{FrameFault, decode};
-pub use encoding::{encode, encode_bytes};
+pub use encoding::{encode, encode_into};
 pub use frame::Frame;
 pub use header::{header_word, word_of};
 

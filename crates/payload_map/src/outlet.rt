@@ -4,7 +4,7 @@ ghost use Rattle.c3794_frame.specs.Numbers.{bits_of};
 ghost use Rattle.payload_map.specs.Outlet.{StandsFor};
 ghost use Rattle.payload_map.specs.Sent.{Slot, sent};
 
-use c3794_frame::encode_bytes;
+use c3794_frame::encode_into;
 use ld_base::Words;
 use std::marker::Model;
 
@@ -85,12 +85,25 @@ impl Outlet {
             → StandsFor self.old channels words slots loaded
             → StandsFor self.new channels words (slots ++ record { loaded = loaded; yellow = yellow } ∷ []) None }
     {
+        let mut frame = [0; 32];
+        self.slot_into(yellow, &mut frame);
+        frame
+    }
+
+    /// The same, written over all that was in `frame`.
+    pub fn slot_into(&mut self, yellow: bool, frame: &mut [u8; 32])
+        ensures sent { (channels : ℕ) (words : HeaderWords) (slots : List (Slot (List ℕ))) (loaded : Option (List ℕ))
+            → StandsFor self.old channels words slots loaded
+            → sent words channels (slots ++ record { loaded = loaded; yellow = yellow } ∷ []) ≡ sent words channels slots ++ bits_of frame.new ∷ [] }
+        ensures stands { (channels : ℕ) (words : HeaderWords) (slots : List (Slot (List ℕ))) (loaded : Option (List ℕ))
+            → StandsFor self.old channels words slots loaded
+            → StandsFor self.new channels words (slots ++ record { loaded = loaded; yellow = yellow } ∷ []) None }
+    {
         let channels = usize::from(self.channels);
         let words = self.words;
         let next = &self.message[self.sent..self.sent + channels];
-        let frame = encode_bytes(self.odd, yellow, next, &words);
+        encode_into(self.odd, yellow, next, &words, frame);
         self.sent = (self.sent + channels).min(MESSAGE_BYTES);
         self.odd = !self.odd;
-        frame
     }
 }

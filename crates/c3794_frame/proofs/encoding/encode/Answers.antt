@@ -7,12 +7,12 @@ use Rattle.c3794_frame.proofs.encoding.encode.Goals as goal
 
 pub returns-clause-bits : goal.returns-clause-bits
 returns-clause-bits c =
-    c.encode_bytes.ensures.bits
+    c.encode_into.ensures.bits
     ∙ ap (frame_bits c.args.words.now)
     (frame-whole c.args.f.now _ _ _ _ c.channels.ensures.fits c.odd.ensures c.yellow.ensures (c.from.ensures ∙ c.channels.ensures.channels) c.payload-payload.ensures.payload)
 
 pub returns-clause-frame : goal.returns-clause-frame
 returns-clause-frame c =
     let f = c.args.f.now in
-    let same : bits_of c.encode_bytes.result ≡ frame_bits c.args.words.now f = returns-clause-bits c in
-    rw same (sent_frame c.args.words.now f (word-lt c.args.words.now f.odd c.encode_bytes.ensures.words) c.channels.ensures.fits)
+    let same : bits_of c.encode_into.new.bits ≡ frame_bits c.args.words.now f = returns-clause-bits c in
+    rw same (sent_frame c.args.words.now f (word-lt c.args.words.now f.odd c.encode_into.ensures.words) c.channels.ensures.fits)

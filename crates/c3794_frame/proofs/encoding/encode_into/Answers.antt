@@ -4,8 +4,8 @@ use Rattle.c3794_frame.specs.Frame.{filled}
 use Rattle.c3794_frame.specs.Nibble.{IsLineByte}
 use Rattle.c3794_frame.proofs.Encoded.{encoded_bits, encoded_more, encoded_rest, encoded_start, header_bytes}
 use Rattle.c3794_frame.proofs.Filled.{filled-idle, length-filled}
-use Rattle.c3794_frame.proofs.encoding.encode_bytes.Goals as goal
-use Rattle.c3794_frame.proofs.encoding.encode_bytes.Goals.{then-yellow, else-yellow}
+use Rattle.c3794_frame.proofs.encoding.encode_into.Goals as goal
+use Rattle.c3794_frame.proofs.encoding.encode_into.Goals.{then-yellow, else-yellow}
 
 pub loop-k-init : goal.loop-k-init
 loop-k-init c =

@@ -3,7 +3,7 @@ use Rattle.c3794_frame.specs.FrameOf.{frame_bits}
 use Rattle.payload_map.specs.Outlet.{StandsFor}
 use Rattle.payload_map.specs.Sent.{sent}
 use Rattle.payload_map.proofs.Slots.{frame-made, left-later, next-bytes, sent-more, stands-more}
-use Rattle.payload_map.proofs.outlet.Outlet.slot.Goals as goal
+use Rattle.payload_map.proofs.outlet.Outlet.slot_into.Goals as goal
 
 pub returns-clause-sent : goal.returns-clause-sent
 returns-clause-sent c n words slots loaded stands =
@@ -12,7 +12,7 @@ returns-clause-sent c n words slots loaded stands =
     let count : o.sent + c.from-channels.result - o.sent ≡ o.channels = omega (arith, c.from-channels.ensures) in
     let next = ap (λ k. take k (drop o.sent o.message)) count ∙ next-bytes o.channels o.sent o.message c.self.invariant.1 c.self.invariant.2 c.self.told c.self.invariant.4 in
     let made = frame-made o.channels (drop o.sent (take 36 o.message)) _ o.odd c.args.yellow c.self.invariant.1 next in
-    sent-more n words slots loaded _ c.args.yellow h ∙ ap (λ bits. sent words n slots ++ bits ∷ []) (sym (c.encode_bytes-frame.ensures.bits ∙ ap (frame_bits o.words) made))
+    sent-more n words slots loaded _ c.args.yellow h ∙ ap (λ bits. sent words n slots ++ bits ∷ []) (sym (c.encode_into.ensures.bits ∙ ap (frame_bits o.words) made))
 
 pub returns-clause-stands : goal.returns-clause-stands
 returns-clause-stands c n words slots loaded stands =
