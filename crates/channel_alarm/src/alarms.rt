@@ -47,6 +47,13 @@ impl Alarms {
         }
     }
 
+    /// The setting `silent`: the silence above which the peer is reported, in ticks.
+    pub fn silent(&self) -> u32
+        ensures { result ≡ self.now.silent }
+    {
+        self.silent
+    }
+
     /// Whether each alarm is on or off already as these facts have it, so that `update` turns none.
     pub fn are_steady(&self, f: &Facts) -> bool
         ensures steady { IsTrue result ↔ (standing self.now.silent (is_on self.now.silent f.now) ≡ self.now) }

@@ -87,3 +87,16 @@ fn what_changes_at_once_is_told_in_order(rt: HostRuntime) -> Result<(), Fail> {
     assert!(rt; turned(&mut alarms, &later, &mixed));
     Ok(())
 }
+
+#[test]
+fn a_peer_is_silent_after_more_ticks_than_the_setting(rt: HostRuntime) -> Result<(), Fail> {
+    let mut alarms = alarms()?;
+    assert_eq!(rt; alarms.silent(), 20_000);
+    let mut quiet = CALM;
+    quiet.quiet = 20_000;
+    assert!(rt; turned(&mut alarms, &quiet, &[]));
+    quiet.quiet = 20_001;
+    assert!(rt; turned(&mut alarms, &quiet, &[turn(Alarm::Silent, true)]));
+    assert_eq!(rt; alarms.silent(), 20_000);
+    Ok(())
+}

@@ -1,7 +1,7 @@
 -- The first least of some elements, found one by one.
-use Rattle.std.specs.Prelude.{ℤ, int_le, int_lt, ◌&&◌, find, filter, not, Option, is_some, MatchOption, if◌then◌else◌}
-use Rattle.std.specs.List.{list_all, list_any}
-use Rattle.std.proofs.Common.{◌≡◌, ℕ, ◌≤◌, Bool, true, false, List, [], ◌∷◌, ◌++◌, Some, None, inl, inr, refl, ap, sym, ◌∙◌, arith, append_assoc, append-nil}
+use Rattle.std.specs.Prelude.{ℤ, int_le, int_lt, find, filter, not, Option, is_some, MatchOption, if◌then◌else◌}
+use Rattle.std.specs.List.{list_all}
+use Rattle.std.proofs.Common.{◌≡◌, ℕ, ◌+◌, ◌≤◌, Bool, true, false, List, [], ◌∷◌, ◌++◌, Some, None, inl, inr, refl, ap, sym, ◌∙◌, arith, append_assoc, append-nil}
 use Rattle.std.proofs.Math.Bool.{and-false}
 use Rattle.std.proofs.lemmas.Bool.{and_parts, cases_Bool}
 use Rattle.std.proofs.lemmas.Bool.Decides.{nat_tests}
@@ -131,12 +131,28 @@ first_least-some value (x ∷ more) xs least is = elim (cases_Bool (int_lt (valu
   | inr greater ↦ rw (← append_assoc xs (x ∷ []) more) (first_least-some value more (xs ++ x ∷ []) least (IsFirstLeast-stays value xs least x is greater))
 ]
 
--- one is chosen exactly where some element passes
-pub first_least-any : {A : Type 0} (value : A → ℤ) (passes : A → Bool) (xs : List A) → list_any passes xs ≡ is_some (first_least value (filter passes xs))
-first_least-any value passes [] = refl
-first_least-any value passes (x ∷ xs) = elim (cases_Bool (passes x)) [
+-- one is chosen exactly where some element is found to pass
+pub first_least-find : {A : Type 0} (value : A → ℤ) (passes : A → Bool) (xs : List A) → is_some (find passes xs) ≡ is_some (first_least value (filter passes xs))
+first_least-find value passes [] = refl
+first_least-find value passes (x ∷ xs) = elim (cases_Bool (passes x)) [
   | inl kept ↦ rw kept (sym (first_least-some value (filter passes xs) (x ∷ []) x (IsFirstLeast-one value x)))
-  | inr dropped ↦ rw dropped (first_least-any value passes xs)
+  | inr dropped ↦ rw dropped (first_least-find value passes xs)
+]
+
+-- where what is found passes another test too, that one finds something
+find-other : {A : Type 0} (test other : A → Bool) (xs : List A) (x : A) → find test xs ≡ Some x → (test x ≡ true → other x ≡ true)
+    → is_some (find other xs) ≡ true
+find-other test other [] x found step = cc
+find-other test other (y ∷ xs) x found step = elim (cases_Bool (other y)) [
+  | inl passes ↦ rw passes refl
+  | inr fails ↦ elim (cases_Bool (test y)) [
+    | inl hit ↦
+        let same = rw hit at found in
+        let is : y ≡ x = cc in
+        let passes : other y ≡ true = rw is (step (rw is at hit)) in
+        cc
+    | inr missed ↦ rw fails (find-other test other xs x (rw missed at found) step)
+  ]
 ]
 
 -- what is found in what passed a test has passed it
@@ -157,3 +173,14 @@ pub chosen-candidate : (age now : ℕ) (newest_first : List Stamps) (e : Stamps)
 chosen-candidate age now newest_first e is =
     let passes = find-filter_passes (is_candidate age now) (λ x. list_all (λ y. int_le (round_trip x) (round_trip y)) (filter (is_candidate age now) newest_first)) newest_first e is in
     grind (arith, nat_tests)
+
+-- a candidate stays one until its age ends
+candidate-stays : (age now stamp : ℕ) (e : Stamps) → now ≤ stamp → stamp ≤ e.a1 + age → is_candidate age now e ≡ true → is_candidate age stamp e ≡ true
+candidate-stays age now stamp e later within is = grind (arith, nat_tests)
+
+-- so one is chosen until the age of the newest candidate ends
+pub chosen-until : (age now stamp : ℕ) (newest_first : List Stamps) (e : Stamps) → find (is_candidate age now) newest_first ≡ Some e
+    → now ≤ stamp → stamp ≤ e.a1 + age → is_some (chosen (λ e. e) age stamp newest_first) ≡ true
+chosen-until age now stamp newest_first e found later within =
+    sym (first_least-find round_trip (is_candidate age stamp) newest_first)
+    ∙ find-other (is_candidate age now) (is_candidate age stamp) newest_first e found (candidate-stays age now stamp e later within)

@@ -1,7 +1,7 @@
 -- A choice among mapped elements is the mapped choice.
-use Rattle.std.specs.Prelude.{ℤ, int_le, nat_le, ◌&&◌, find, filter, reverse, not, option_map, Option}
+use Rattle.std.specs.Prelude.{ℤ, int_le, find, filter, reverse, not, option_map}
 use Rattle.std.specs.List.{list_all}
-use Rattle.std.proofs.Common.{◌≡◌, ℕ, Bool, true, false, List, [], ◌∷◌, ◌++◌, Some, None, map, take, inl, inr, refl, ap, sym, ◌∙◌}
+use Rattle.std.proofs.Common.{◌≡◌, ℕ, Bool, List, [], ◌∷◌, ◌++◌, map, take, inl, inr, refl, ap, sym, ◌∙◌}
 use Rattle.std.proofs.lemmas.Bool.{cases_Bool}
 use Rattle.std.proofs.lemmas.List.{reverse-append, map-append, take-map}
 use Rattle.std.proofs.lemmas.List.Folds.{list_all-map}

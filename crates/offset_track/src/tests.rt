@@ -30,6 +30,11 @@ fn begun(track: &Track, now: u64) -> Option<u64> {
     Some(track.in_force(Ticks::new(now)?)?.exchange().a1)
 }
 
+// The last stamp up to which the newest candidate stays one.
+fn until(track: &Track, now: u64) -> Option<u64> {
+    track.aligned_until(Ticks::new(now)?)
+}
+
 #[test]
 fn the_least_of_eight_is_in_force_and_of_equals_the_newest(rt: HostRuntime) -> Result<(), Fail> {
     let mut track = usual_track().ok_or("a track")?;
@@ -68,5 +73,33 @@ fn a_fresh_exchange_tells_its_stamp_and_its_estimate(rt: HostRuntime) -> Result<
     assert_eq!(rt; fresh.now(), now);
     assert_eq!(rt; fresh.exchange(), exchange(1000, 5500, 600));
     assert_eq!(rt; fresh.estimate2(), 8400);
+    Ok(())
+}
+
+#[test]
+fn the_newest_candidate_stays_one_up_to_its_age(rt: HostRuntime) -> Result<(), Fail> {
+    let mut track = usual_track().ok_or("a track")?;
+    assert_eq!(rt; until(&track, 10_000), None);
+    assert_eq!(rt; track.accept(exchange(1000, 5000, 600)), Taken::Kept);
+    assert_eq!(rt; until(&track, 999), None);
+    assert_eq!(rt; until(&track, 1000), Some(1_001_000));
+    assert_eq!(rt; until(&track, 1_001_000), Some(1_001_000));
+    assert_eq!(rt; until(&track, 1_001_001), None);
+    let last = Ticks::new(1_001_000).ok_or("a stamp")?;
+    assert!(rt; track.is_aligned(last));
+    let later = Ticks::new(1_001_001).ok_or("a stamp")?;
+    assert!(rt; !track.is_aligned(later));
+    Ok(())
+}
+
+#[test]
+fn the_newest_lasts_once_it_has_begun(rt: HostRuntime) -> Result<(), Fail> {
+    let mut track = usual_track().ok_or("a track")?;
+    assert_eq!(rt; track.accept(exchange(1000, 5000, 600)), Taken::Kept);
+    assert_eq!(rt; track.accept(exchange(9000, 13_000, 700)), Taken::Kept);
+    assert_eq!(rt; until(&track, 8999), Some(1_001_000));
+    assert_eq!(rt; until(&track, 9000), Some(1_009_000));
+    assert_eq!(rt; begun(&track, 9000), Some(1000));
+    assert_eq!(rt; until(&track, 1_009_001), None);
     Ok(())
 }

@@ -1,5 +1,5 @@
-ghost use Rattle.std.specs.Prelude.{◌≡◌, ◌≤◌, ◌++◌, [], ◌∷◌, List, is_some, option_map, if◌then◌else◌, ◌<◌, ◌^◌, MatchOption, int_lt, unsigned_abs};
-ghost use Rattle.std.specs.List.{list_any};
+ghost use Rattle.std.specs.Prelude.{◌≡◌, ℕ, ◌+◌, ◌≤◌, ◌++◌, [], ◌∷◌, List, true, find, is_some, option_map, if◌then◌else◌, ◌<◌, ◌^◌, MatchOption, int_lt, unsigned_abs};
+ghost use Rattle.std.specs.Option.{ForSome};
 ghost use Rattle.offset_track.specs.InForce.{InForce, chosen, is_candidate, is_slow};
 ghost use Rattle.offset_track.specs.Track.{StandsFor, with_exchange};
 ghost use Rattle.pingpong.specs.Exchange.{Stamps, estimate2, round_trip};
@@ -129,7 +129,19 @@ impl Track {
         ensures in_force { (offered : List Stamps) → StandsFor self.now offered
             → result ≡ is_some (InForce (λ e. e) self.now.slow self.now.age now offered) }
     {
-        has_candidate(self.kept.as_slice(), self.age, now.get())
+        newest_candidate(self.kept.as_slice(), self.age, now.get()).is_some()
+    }
+
+    /// The last stamp up to which the newest candidate at `now` stays a candidate, so that an exchange is in force at every stamp
+    /// from `now` to it. None exactly where no exchange is in force at `now`.
+    pub fn aligned_until(&self, now: Ticks) -> Option<u64>
+        ensures until { result ≡ option_map (λ e. e.a1 + self.now.age) (find (is_candidate self.now.age now) self.now.newest_first) }
+        ensures aligned { is_some result ≡ is_some (chosen (λ e. e) self.now.age now self.now.newest_first) }
+        ensures lasts { ForSome result (λ until. (stamp : ℕ) → now ≤ stamp → stamp ≤ until
+            → is_some (chosen (λ e. e) self.now.age stamp self.now.newest_first) ≡ true) }
+    {
+        let newest = newest_candidate(self.kept.as_slice(), self.age, now.get())?;
+        Some(newest.a1 + u64::from(self.age))
     }
 }
 
@@ -146,10 +158,14 @@ fn chosen(newest_first: &[Exchange], age: u32, now: u64) -> Option<Exchange>
     best
 }
 
-fn has_candidate(newest_first: &[Exchange], age: u32, now: u64) -> bool
-    ensures { result ≡ list_any (is_candidate age now) newest_first.now }
+// The first candidate.
+fn newest_candidate(newest_first: &[Exchange], age: u32, now: u64) -> Option<Exchange>
+    ensures { result ≡ find (is_candidate age now) newest_first.now }
 {
-    newest_first.iter().any(|e| is_candidate(e, age, now))
+    newest_first
+        .iter()
+        .copied()
+        .find(|e| is_candidate(e, age, now))
 }
 
 fn is_candidate(e: &Exchange, age: u32, now: u64) -> bool

@@ -1,9 +1,9 @@
-use Rattle.std.specs.Prelude.{filter, ◌++◌}
-use Rattle.std.proofs.Common.{◌≡◌, ◌∙◌, [], ◌∷◌, sym, ap, take, take_all, append-nil, true, false}
+use Rattle.std.specs.Prelude.{filter}
+use Rattle.std.proofs.Common.{◌≡◌, ◌∙◌, ap, take, take_all, append-nil, true, false}
 use Rattle.std.proofs.lemmas.List.Elements.{filter_more}
 use Rattle.pingpong.specs.Exchange.{round_trip}
 use Rattle.offset_track.specs.InForce.{is_candidate, first_least}
-use Rattle.offset_track.proofs.Choices.{IsBest, IsBest-found, IsBest-more}
+use Rattle.offset_track.proofs.Choices.{IsBest-found, IsBest-more}
 use Rattle.offset_track.proofs.track.chosen.Goals as goal
 use Rattle.offset_track.proofs.track.chosen.Goals.{then-is_candidate, else-is_candidate}
 
