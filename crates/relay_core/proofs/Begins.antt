@@ -1,6 +1,6 @@
 -- When a message begins.
-use Rattle.std.proofs.Common.{◌≡◌, ℕ, ◌+◌, ◌≤◌, ◌<◌, Bool, Option, true, false, leb, ◌&&◌, cond, [], ◌∷◌, List, length, reverse, slice_get, Some, None, arith, refl, sym, ap, ◌∙◌, subst}
-use Rattle.std.proofs.lemmas.Bool.{false_from_ne_true}
+use Rattle.std.proofs.Common.{◌≡◌, ℕ, ◌+◌, ◌≤◌, ◌<◌, inl, inr, Option, true, false, leb, ◌&&◌, cond, [], ◌∷◌, List, length, reverse, slice_get, Some, None, arith, refl, sym, ap, ◌∙◌, subst}
+use Rattle.std.proofs.lemmas.Bool.{cases_lt, false_from_ne_true}
 use Rattle.std.proofs.lemmas.List.{append-nil, nil_from_length, reverse-append}
 use Rattle.ld_base.specs.Message.{Contents}
 use Rattle.ld_base.specs.declared.fields.Fields.{Fields}
@@ -8,10 +8,9 @@ use Rattle.relay_message.specs.MessageOf.{spelled}
 use Rattle.payload_map.specs.Messages.{CanBeSent, relay_slots}
 use Rattle.payload_map.specs.Outlet as outlet
 use Rattle.payload_map.specs.Sent.{Slot, unsent}
-use Rattle.sample_store.specs.declared.ring.Numbered.{Numbered}
 use Rattle.relay_core.specs.Line.{rules_of}
-use Rattle.relay_core.specs.Sent.{begins, begun_in, can_begin, is_free, number_behind}
-use Rattle.relay_core.specs.Talks.{Begins, Speaks, Spoken, Talks}
+use Rattle.relay_core.specs.Sent.{begun_in, can_begin, is_free, number_behind}
+use Rattle.relay_core.specs.Talks.{Begins, Talks}
 use Rattle.relay_core.specs.declared.talker.Talker.{Talker}
 use Rattle.relay_core.proofs.Slots.{unsent-is_free}
 
@@ -40,12 +39,22 @@ can_begin-idle f t slots number talks idle =
     ap (λ next. leb next number) talks.next
     ∙ sym (ap (λ b. b && leb (number_behind (slice_get (reverse (begun_in slots)) 0)) number) (free-idle f t slots talks idle))
 
+-- nothing is left where one can begin
+pub can_begin-left : (f : Fields) (t : Talker) (slots : List (Slot Contents)) (number : ℕ) → Talks f t slots → can_begin f.channels slots number ≡ true
+    → length t.outlet.left ≤ 0
+can_begin-left f t slots number talks can = elim (cases_lt 0 (length t.outlet.left)) [
+  | inl busy ↦ let no = can_begin-busy f t slots number talks busy in absurd (cc)
+  | inr idle ↦ idle
+]
+
 -- none begins where it can't
 pub Begins-not : (f : Fields) (t : Talker) (slots : List (Slot Contents)) (m : Contents) → Talks f t slots → can_begin f.channels slots m.number ≡ false
     → Begins f t slots (Some m) None
 Begins-not f t slots m talks can = record {
+  channels = talks.channels;
   is = sym (ap (λ b. cond b (Some m) None) can);
   sendable = λ m e. absurd (cc);
+  earlier = talks.sendable;
   outlet = talks.outlet;
   next = talks.next ∙ ap (λ ms. number_behind (slice_get (reverse ms) 0)) (sym (append-nil (begun_in slots)));
 }
@@ -53,30 +62,29 @@ Begins-not f t slots m talks can = record {
 -- nor where none is ready
 pub Begins-none : (f : Fields) (t : Talker) (slots : List (Slot Contents)) → Talks f t slots → Begins f t slots None None
 Begins-none f t slots talks = record {
+  channels = talks.channels;
   is = refl;
   sendable = λ m e. absurd (cc);
+  earlier = talks.sendable;
   outlet = talks.outlet;
   next = talks.next ∙ ap (λ ms. number_behind (slice_get (reverse ms) 0)) (sym (append-nil (begun_in slots)));
 }
+
+-- so none begins where one is in flight, whichever is ready
+pub Begins-busy : (f : Fields) (t : Talker) (slots : List (Slot Contents)) (ready : Option Contents) → Talks f t slots → 0 < length t.outlet.left
+    → Begins f t slots ready None
+Begins-busy f t slots None talks busy = Begins-none f t slots talks
+Begins-busy f t slots (Some m) talks busy = Begins-not f t slots m talks (sym (can_begin-busy f t slots m.number talks busy))
 
 -- one begins where it can
 pub Begins-loaded : (f : Fields) (old new : Talker) (slots : List (Slot Contents)) (m : Contents) → Talks f old slots → can_begin f.channels slots m.number ≡ true
     → CanBeSent m → outlet.StandsFor new.outlet f.channels (rules_of f).words (relay_slots slots) (Some (spelled m)) → new.next ≡ m.number + 1
     → Begins f new slots (Some m) (Some m)
 Begins-loaded f old new slots m talks can sendable loaded next = record {
+  channels = talks.channels;
   is = sym (ap (λ b. cond b (Some m) None) can);
   sendable = λ other e. subst CanBeSent (cc) sendable;
+  earlier = talks.sendable;
   outlet = loaded;
   next = next ∙ ap (λ ms. number_behind (slice_get ms 0)) (sym (reverse-append (begun_in slots) (m ∷ [])));
 }
-
--- a message that can't begin need not be made
-pub begins-ready : (channels : ℕ) (slots : List (Slot Contents)) (message : Numbered → Contents) (sample : Numbered) → (message sample).number ≡ sample.number
-    → can_begin channels slots sample.number ≡ false → None ≡ begins channels slots (Some (message sample))
-begins-ready channels slots message sample same can =
-    sym (ap (λ number. cond (can_begin channels slots number) (Some (message sample)) None) same ∙ ap (λ b. cond b (Some (message sample)) None) can)
-
--- what is said of a message that is ready holds of another that begins where this one does
-pub Speaks-ready : (f : Fields) (t : Talker) (slots : List (Slot Contents)) (ready other : Option Contents) (yellow : Bool) (spoken : Spoken)
-    → begins f.channels slots ready ≡ begins f.channels slots other → Speaks f t slots ready yellow spoken → Speaks f t slots other yellow spoken
-Speaks-ready f t slots ready other yellow spoken same speaks = record { begun = speaks.begun ∙ same; talks = speaks.talks; bits = speaks.bits }

@@ -10,6 +10,7 @@ use Rattle.relay_core.specs.AlarmState.{is_faulty}
 use Rattle.relay_core.specs.Follows.{Follows, Signals}
 use Rattle.relay_core.specs.Log.{Call, is_peer, peers}
 use Rattle.relay_core.specs.Log.Call.{faults, hears}
+use Rattle.relay_core.specs.Turned.{IsCalmTrue}
 use Rattle.relay_core.specs.declared.peer.Peer.{Peer}
 use Rattle.relay_core.proofs.Following.{Follows-elsewhere, IsElsewhere}
 use Rattle.relay_core.proofs.Lists.{All-set, Rise-filter, Rise-place}
@@ -60,6 +61,10 @@ pub Signal-set : (f : Fields) (me : ℕ) (log : List Call) (ps : List Peer) (pla
 Signal-set f me log ps place peer x y at station alarms all =
     All-set (Signals f me log) (Signals f me log) ps place y all (λ k d inside away signals. signals)
     (Signals-kept f me log x y station alarms (subst (Signals f me log) (sym at.is) (all place x at.inside)))
+
+-- where what is true of their calm was so, and is of the peer, it is of all
+pub calm-set : (ps : List Peer) (place : ℕ) (y : Peer) → All IsCalmTrue ps → IsCalmTrue y → All IsCalmTrue (set ps place y)
+calm-set ps place y all new = All-set IsCalmTrue IsCalmTrue ps place y all (λ k d inside away calm. calm) new
 
 pub stations-set : (f : Fields) (me : ℕ) (ps : List Peer) (place peer : ℕ) (x y : Peer) → IsAt f me ps place peer x → y.station ≡ x.station
     → map (λ p. p.station) (set ps place y) ≡ map (λ p. p.station) ps

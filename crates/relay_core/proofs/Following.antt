@@ -23,6 +23,7 @@ use Rattle.relay_core.specs.Sent.{Slots, slot_by}
 use Rattle.relay_core.specs.Talks.{Talks}
 use Rattle.relay_core.specs.declared.answers.News.{News}
 use Rattle.relay_core.specs.declared.answers.News.TheVariants as news
+use Rattle.relay_core.specs.declared.calm.Calm.{Calm}
 use Rattle.relay_core.specs.declared.listener.Listener.{Listener}
 use Rattle.relay_core.specs.declared.listener.Told.{Told}
 use Rattle.relay_core.specs.declared.peer.Peer.{Peer}
@@ -78,10 +79,10 @@ Follows-new f me p settings listens talks stands last faulty =
     record { settings = settings; listens = listens; talks = talks; track = stands; last = last; faulty = faulty }
 
 -- a failed call on a wire of the peer
-pub Follows-faults : (f : Fields) (me at : ℕ) (log : List Call) (p : Peer) → Follows f me log p
+pub Follows-faults : (f : Fields) (me at : ℕ) (log : List Call) (p : Peer) (calm : Calm) → Follows f me log p
     → Follows f me (log ++ faults at p.station ∷ [])
-    (record { station = p.station; listener = p.listener; talker = p.talker; track = p.track; last = p.last; faulty = true; alarms = p.alarms })
-Follows-faults f me at log p follows =
+    (record { station = p.station; listener = p.listener; talker = p.talker; track = p.track; last = p.last; faulty = true; alarms = p.alarms; calm = calm })
+Follows-faults f me at log p calm follows =
     let call = faults at p.station in
     let line = Line-same p.station log call refl in
     let accepted = Accepted-same f me p.station log call line in
@@ -128,14 +129,14 @@ exchanges f me at time log p bits told n heard =
     Exchanges-push f me p.station log call (receipts_in time n) (accepted f me at time log p bits told n heard)
     ∙ ap (λ es. Exchanges f me p.station log ++ es) (exchanges-receipts time n)
 
-pub Follows-hears : (f : Fields) (me at time : ℕ) (log : List Call) (p : Peer) (bits : List ℕ) (told : Told) (n : News) (listener : Listener) (kept : track.Held) (last : Option Receipt)
+pub Follows-hears : (f : Fields) (me at time : ℕ) (log : List Call) (p : Peer) (bits : List ℕ) (told : Told) (n : News) (listener : Listener) (kept : track.Held) (last : Option Receipt) (calm : Calm)
     → AreHeard f me at time log p bits told n → Listens f listener (Line p.station log ++ bits)
     → (kept.slow ≡ p.track.slow) × (kept.age ≡ p.track.age)
     → track.StandsFor kept (Exchanges f me p.station log ++ exchanges_in time n)
     → last ≡ last_after p.last time n
     → Follows f me (log ++ hears at p.station bits ∷ [])
-    (record { station = p.station; listener = listener; talker = p.talker; track = kept; last = last; faulty = false; alarms = p.alarms })
-Follows-hears f me at time log p bits told n listener kept last heard listens settings stands is_last =
+    (record { station = p.station; listener = listener; talker = p.talker; track = kept; last = last; faulty = false; alarms = p.alarms; calm = calm })
+Follows-hears f me at time log p bits told n listener kept last calm heard listens settings stands is_last =
     let call = hears at p.station bits in
     record {
       settings = (settings.0 ∙ heard.follows.settings.0, settings.1 ∙ heard.follows.settings.1);

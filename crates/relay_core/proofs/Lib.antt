@@ -4,6 +4,7 @@ pub mod AnswersAlike
 pub mod Begins
 pub mod Begun
 pub mod Calls
+pub mod Calming
 pub mod Changing
 pub mod Completing
 pub mod Deciding

@@ -1,11 +1,11 @@
 -- Lists of which something is known at each place.
-use Rattle.std.proofs.Common.{◌≡◌, ◌≢◌, ℕ, zero, suc, ◌<◌, ◌≤◌, inl, inr, Bool, true, false, cond, List, [], ◌∷◌, ◌++◌, All, Some, drop, get_or, length, map, reverse, set, take, refl, ap, sym, subst, ◌∙◌, arith}
+use Rattle.std.proofs.Common.{◌≡◌, ◌≢◌, ℕ, zero, suc, ◌<◌, ◌≤◌, inl, inr, Bool, true, false, cond, List, [], ◌∷◌, ◌++◌, All, Some, drop, get_or, length, map, reverse, set, refl, ap, sym, subst, ◌∙◌, arith}
 use Rattle.std.specs.Prelude.{slice_get, filter}
-use Rattle.std.specs.List.{flat_map}
+use Rattle.std.specs.List.{flat_map, refill}
 use Rattle.std.specs.Option.{ForSome}
 use Rattle.std.specs.Global.{Vec}
 use Rattle.std.specs.Vec.{with_items}
-use Rattle.std.proofs.Math.Seq.{take-append_seam}
+use Rattle.std.proofs.Math.Seq.{set-append_seam, take-append_seam}
 use Rattle.std.proofs.lemmas.Bool.{cases_eq}
 use Rattle.std.proofs.lemmas.List.{get_or-map, get_or-set_other, get_or-set_same, length-map, length-set, reverse-append}
 use Rattle.std.proofs.lemmas.List.Elements.{All-append, All-cons, All-nil}
@@ -100,9 +100,22 @@ All-set P Q xs i y all others new k d inside =
       | inr away ↦ subst Q (sym (get_or-set_other xs i k y d away)) (others k d within away (all k d within))
     ]
 
+-- a list that is written over by one as long is that one
+pub refilled : {A : Type 0} (old xs : List A) → length xs ≡ length old → refill (length old) old xs ≡ xs
+refilled old xs long = ap (λ n. refill n old xs) (sym long) ∙ take-append_seam xs (drop (length xs) old)
+
+-- an element that is pushed, and then written over, is the last
+pub written-last : {A : Type 0} (xs pushed lent : List A) (x y : A) (place : ℕ) → place ≡ length xs → pushed ≡ xs ++ x ∷ [] → lent ≡ pushed
+    → refill (length pushed) pushed (set lent place y) ≡ xs ++ y ∷ []
+written-last xs pushed lent x y place last is same =
+    refilled pushed (set lent place y) (length-set lent place y ∙ ap length same)
+    ∙ ap (λ ys. set ys place y) (same ∙ is)
+    ∙ ap (λ k. set (xs ++ x ∷ []) k y) last
+    ∙ set-append_seam xs x [] y
+
 -- a vector whose elements were all written as a slice has these
 pub written : {A : Type 0} (v : Vec A) (xs : List A) → length xs ≡ length v.items → (with_items v xs).items ≡ xs
-written v xs long = ap (λ n. take n (xs ++ drop (length xs) v.items)) (omega (arith, long, v.ok.0)) ∙ take-append_seam xs (drop (length xs) v.items)
+written v xs long = ap (λ n. refill n v.items xs) (omega (arith, v.ok.0)) ∙ refilled v.items xs long
 
 -- and the same where each of them was mapped
 pub written-mapped : {A : Type 0} (g : A → A) (v : Vec A) (xs ys : List A) → xs ≡ v.items → ys ≡ map g xs → (with_items v ys).items ≡ map g v.items

@@ -65,7 +65,7 @@ slot f me at time log p newest talker spoken is =
 pub Follows-sends : (f : Fields) (me at time : ℕ) (log : List Call) (p : Peer) (newest : Option Numbered) (talker : Talker) (spoken : Spoken)
     → IsSpoken f me at time log p newest talker spoken
     → Follows f me (log ++ sends at ∷ [])
-    (record { station = p.station; listener = p.listener; talker = talker; track = p.track; last = p.last; faulty = p.faulty; alarms = p.alarms })
+    (record { station = p.station; listener = p.listener; talker = talker; track = p.track; last = p.last; faulty = p.faulty; alarms = p.alarms; calm = p.calm })
 Follows-sends f me at time log p newest talker spoken is =
     let call = sends at in
     let line = Line-same p.station log call refl in

@@ -9,10 +9,12 @@ use Rattle.relay_core.specs.AlarmState.{AlarmState}
 use Rattle.relay_core.specs.Answers.{outgo_by, outgo_of}
 use Rattle.relay_core.specs.Decided.{Newest, Offers, offered_by}
 use Rattle.relay_core.specs.Decides.{Decides}
-use Rattle.relay_core.specs.Follows.{SendsSlot, Signals}
+use Rattle.relay_core.specs.Follows.{Signals}
 use Rattle.relay_core.specs.Log.{Call, is_peer, peers}
 use Rattle.relay_core.specs.Log.Call.{sends}
+use Rattle.relay_core.specs.Sends.{AllSend}
 use Rattle.relay_core.specs.StandsFor.{Kept, StandsFor, span_with}
+use Rattle.relay_core.specs.Turned.{IsCalmTrue}
 use Rattle.relay_core.specs.declared.answers.Outgoing.{Outgoing}
 use Rattle.relay_core.specs.declared.peer.Peer.{Peer}
 use Rattle.relay_core.specs.declared.terminal.Span.{Span}
@@ -40,18 +42,19 @@ peers-others f me ps stations k d inside =
     other there true is passes = absurd (grind arith)
     other there false is passes = λ same. absurd (grind (arith, is, same))
 
--- each peer's slot
-pub record AllSend (me time : ℕ) (newest : Option Numbered) (old new : List Peer) (outs : List Outgoing) : Type 0 where
-  pub long : length new ≡ length old
-  pub count : length outs ≡ length old
-  pub each : (k : ℕ) (p q : Peer) (o : Outgoing) → k < length old → SendsSlot me time newest (get_or old k p) (get_or new k q) (get_or outs k o)
-
 nothing : Outgoing
 nothing = record { to = 0; bytes = []; begun = None }
 
 pub stations-sent : (me time : ℕ) (newest : Option Numbered) (old new : List Peer) (outs : List Outgoing) → AllSend me time newest old new outs
     → map (λ p. p.station) new ≡ map (λ p. p.station) old
 stations-sent me time newest old new outs send = map-alike (λ p. p.station) (λ p. p.station) new old send.long (λ k d e inside. (send.each k e d nothing inside).station)
+
+-- and what is true of their calm stays so
+pub calm-sent : (me time : ℕ) (newest : Option Numbered) (old new : List Peer) (outs : List Outgoing) → AllSend me time newest old new outs
+    → All IsCalmTrue old → All IsCalmTrue new
+calm-sent me time newest old new outs send calm k d inside =
+    let within : k < length old = omega (arith, inside, send.long) in
+    (send.each k d d nothing within).calm (calm k d within)
 
 pub Served-sends : (t : Kept) (log : List Call) (at : ℕ) (span : Span) (new : List Peer) (outs : List Outgoing)
     → StandsFor t log → span ≡ span_with t.span at → AllSend t.me span.now t.newest t.peers new outs

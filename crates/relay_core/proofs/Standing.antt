@@ -15,12 +15,13 @@ use Rattle.relay_core.specs.Decides.{Decides}
 use Rattle.relay_core.specs.Follows.{Follows, Signals}
 use Rattle.relay_core.specs.Log.{Call, clock, now, peers, since, stamp_of}
 use Rattle.relay_core.specs.StandsFor.{Kept, StandsFor, now_of, since_of, span_with}
-use Rattle.relay_core.specs.Turned.{told, turned}
+use Rattle.relay_core.specs.Turned.{IsCalmTrue, told, turned}
 use Rattle.relay_core.specs.declared.decider.Decider.{Decider}
 use Rattle.relay_core.specs.declared.peer.Peer.{Peer}
 use Rattle.relay_core.specs.declared.terminal.Span.{Span}
 use Rattle.relay_core.proofs.Alarming.{Signals-turned, told-turned}
 use Rattle.relay_core.proofs.Calls.{clock-push, now-push}
+use Rattle.relay_core.proofs.Calming.{IsCalmTrue-turned}
 use Rattle.relay_core.proofs.Lists.{flat_map-mapped, flat_map-same, map-mapped}
 
 -- the terminal's time at the first call and at this one
@@ -83,6 +84,11 @@ follows-turned f me log first time p follows = record {
 pub stations-turned : (first time : ℕ) (ps qs : List Peer) (stations : List ℕ) → qs ≡ map (turned first time) ps → map (λ p. p.station) ps ≡ stations
     → map (λ p. p.station) qs ≡ stations
 stations-turned first time ps qs stations is same = ap (map (λ p. p.station)) is ∙ map-mapped (λ p. p.station) (turned first time) ps ∙ same
+
+-- and what is true of their calm
+pub calm-turned : (first time : ℕ) (ps qs : List Peer) → qs ≡ map (turned first time) ps → All IsCalmTrue ps → All IsCalmTrue qs
+calm-turned first time ps qs is calm =
+    subst (All IsCalmTrue) (sym is) (All-map IsCalmTrue (turned first time) ps (λ k d inside. IsCalmTrue-turned first time (get_or ps k d) (calm k d inside)))
 
 pub StandsFor-turned : (t : Kept) (log : List Call) (call : Call) (span : Span) (newest : Option Numbered) (decider : Decider) (ps qs : List Peer)
     → IsServed t log call span newest decider ps → qs ≡ map (turned span.since span.now) ps

@@ -22,6 +22,7 @@ use Rattle.relay_core.specs.Log.{Call, now}
 use Rattle.relay_core.specs.Log.Call.{sends}
 use Rattle.relay_core.specs.Sent.{Slots}
 use Rattle.relay_core.specs.Talks.{Talks}
+use Rattle.relay_core.specs.Turned.{IsCalmTrue}
 use Rattle.relay_core.specs.declared.answers.Heard.{Heard}
 use Rattle.relay_core.specs.declared.answers.News.{News}
 use Rattle.relay_core.specs.declared.answers.News.TheVariants as news
@@ -96,6 +97,7 @@ fresh_in slow age offered at n = option_map (λ e. record { exchange = e; at = a
 pub record SendsSlot (me time : ℕ) (newest : Option Numbered) (old new : Peer) (out : Outgoing) : Type 0 where
   pub station : new.station ≡ old.station
   pub alarms : new.alarms ≡ old.alarms
+  pub calm : IsCalmTrue old → IsCalmTrue new
   pub follows : (f : Fields) (log : List Call) (at : ℕ) → Follows f me log old → newest ≡ Newest f me log → time ≡ now (log ++ sends at ∷ [])
       → Follows f me (log ++ sends at ∷ []) new
   pub sends : (f : Fields) (log : List Call) (at : ℕ) → Follows f me log old → newest ≡ Newest f me log → time ≡ now (log ++ sends at ∷ [])

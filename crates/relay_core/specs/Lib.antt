@@ -3,12 +3,14 @@ pub mod Alike
 pub mod AlarmState
 pub mod Answers
 pub mod Calls
+pub mod Calm
 pub mod Decided
 pub mod Decides
 pub mod Follows
 pub mod Line
 pub mod Listens
 pub mod Log
+pub mod Sends
 pub mod Sent
 pub mod StandsFor
 pub mod Talks

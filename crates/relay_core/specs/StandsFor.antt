@@ -6,6 +6,7 @@ use Rattle.relay_core.specs.Decided.{Newest, Offers}
 use Rattle.relay_core.specs.Decides.{Decides}
 use Rattle.relay_core.specs.Follows.{Follows, Signals}
 use Rattle.relay_core.specs.Log.{Call, clock, peers, since}
+use Rattle.relay_core.specs.Turned.{IsCalmTrue}
 use Rattle.relay_core.specs.declared.decider.Decider.{Decider}
 use Rattle.relay_core.specs.declared.peer.Peer.{Peer}
 use Rattle.relay_core.specs.declared.terminal.Span.{Span}
@@ -39,10 +40,12 @@ abbrev pub span_with : Option Span → ℕ → Span
 span_with None stamp = record { since = stamp; now = stamp }
 span_with (Some span) stamp = record { since = span.since; now = max span.now stamp }
 
--- its station is one of the line, it keeps the others as its peers in their order, and it decided nothing after its time
+-- its station is one of the line, it keeps the others as its peers in their order, what it keeps of their calm is true, and it
+-- decided nothing after its time
 pub record IsTerminal (t : Inside) : Type 0 where
   pub me : t.me ≤ t.settings.stations
   pub peers : map (λ p. p.station) t.peers.items ≡ peers t.settings t.me
+  pub calm : All IsCalmTrue t.peers.items
   pub decider : (t.decider.store.fields ≡ t.settings) × (t.decider.store.me ≡ t.me)
   pub decided : t.decider.store.now ≤ now_of t.span
 

@@ -20,8 +20,10 @@ pub record Talks (f : Fields) (t : Talker) (slots : List (Slot Contents)) : Type
 
 -- what a message ready to begin becomes before the next slot: whether it begins, and then it is loaded
 pub record Begins (f : Fields) (new : Talker) (slots : List (Slot Contents)) (ready begun : Option Contents) : Type 0 where
+  pub channels : 1 ≤ f.channels
   pub is : begun ≡ begins f.channels slots ready
   pub sendable : ForSome begun CanBeSent
+  pub earlier : All (λ slot. ForSome slot.loaded CanBeSent) slots
   pub outlet : outlet.StandsFor new.outlet f.channels (rules_of f).words (relay_slots slots) (option_map spelled begun)
   pub next : new.next ≡ number_behind (slice_get (reverse (begun_in slots ++ option_to_list begun)) 0)
 

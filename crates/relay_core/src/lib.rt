@@ -2,6 +2,7 @@
 #![tactic(auto)]
 
 mod answers;
+mod calm;
 mod decider;
 pub mod laws;
 mod listener;

@@ -1,6 +1,6 @@
 //! What a terminal keeps of one peer.
 
-ghost use Rattle.std.specs.Prelude.{◌≡◌, ◌≢◌, ◌≤◌, ◌+◌, ◌++◌, ◌∷◌, [], ℕ, List, None, length, map, option_map};
+ghost use Rattle.std.specs.Prelude.{◌≡◌, ◌≢◌, ◌≤◌, ◌+◌, ◌++◌, ◌∷◌, [], ℕ, List, None, false, length, map, option_map};
 ghost use Rattle.std.specs.Option.{ForSome, option_to_list};
 ghost use Rattle.ld_base.specs.Message.{Contents, IsEcho};
 ghost use Rattle.ld_base.specs.declared.fields.Fields.{Fields};
@@ -9,15 +9,17 @@ ghost use Rattle.payload_map.specs.Sent.{Slot};
 ghost use Rattle.pingpong.specs.Exchange.{Stamps};
 ghost use Rattle.sample_store.specs.declared.ring.Numbered.{Numbered};
 ghost use Rattle.relay_core.specs.Answers.{news_in, news_of, taken_of};
+ghost use Rattle.relay_core.specs.Calm.{holds};
 ghost use Rattle.relay_core.specs.Follows.{Brings, Follows, SendsSlot, Signals, brought_in, exchanges_in, fresh_in, last_after};
 ghost use Rattle.relay_core.specs.declared.answers.News.TheVariants as news;
 ghost use Rattle.relay_core.specs.Log.{Call};
 ghost use Rattle.relay_core.specs.Log.Call.{faults, hears};
 ghost use Rattle.relay_core.specs.Log as log;
-ghost use Rattle.relay_core.specs.Sent.{begins, echo_of, message_of};
-ghost use Rattle.relay_core.specs.Talks.{Talks};
-ghost use Rattle.relay_core.specs.Turned.{facts_kept, told, turned};
+ghost use Rattle.relay_core.specs.Sent.{echo_of, message_of};
+ghost use Rattle.relay_core.specs.Talks.{Begins, Talks};
+ghost use Rattle.relay_core.specs.Turned.{IsCalmTrue, facts_kept, told, turned};
 
+use crate::calm::Calm;
 use crate::listener::Listener;
 use crate::receipt::Receipt;
 use crate::talker::Talker;
@@ -39,6 +41,8 @@ pub(crate) struct Peer {
     last: Option<Receipt>,
     faulty: bool,
     alarms: Alarms,
+    // The stamps at which the alarms stay as they are while nothing comes.
+    calm: Calm,
 }
 
 impl Peer {
@@ -47,6 +51,7 @@ impl Peer {
         ensures station { result.station ≡ station }
         ensures follows { (me : ℕ) → Follows s.now me [] result }
         ensures signals { (me : ℕ) → Signals s.now me [] result }
+        ensures calm { IsCalmTrue result }
     {
         Peer {
             station,
@@ -56,6 +61,7 @@ impl Peer {
             last: None,
             faulty: false,
             alarms: Alarms::new(s),
+            calm: Calm::never(),
         }
     }
 
@@ -69,8 +75,10 @@ impl Peer {
         heard: &mut Heard,
     ) -> Option<Fresh>
         requires nothing { (heard.old.news ≡ news.Nothing) × (heard.old.taken ≡ None) }
+        requires calm { IsCalmTrue self.old }
         ensures station { self.new.station ≡ self.old.station }
         ensures alarms { self.new.alarms ≡ self.old.alarms }
+        ensures calm { IsCalmTrue self.new }
         ensures at { ForSome result (λ chosen. chosen.at ≡ now) }
         ensures follows { (f : Fields) (calls : List Call) (at : ℕ) → Follows f me calls self.old
             → now ≡ log.now (calls ++ hears at self.old.station chunk.now ∷ [])
@@ -80,87 +88,122 @@ impl Peer {
             → Brings f me calls self.old.station (hears at self.old.station chunk.now) (brought_in heard.new result) }
         ensures rest { heard.new ≡ record heard.old { frame = heard.new.frame; news = heard.new.news; refused = heard.new.refused; taken = heard.new.taken } }
     {
+        let before = self.state();
         self.faulty = false;
         let told = self.listener.hear(chunk);
         heard.frame = told.frame;
         heard.refused = told.refused;
         // Most frames complete no message.
         if told.message.is_none() {
+            self.calm = self.calm.kept_if(self.state() == before);
             return None;
         }
         let news = news_of(self.station, me, &self.last, told.message);
         let (taken, fresh) = exchanged(&mut self.track, &news, now);
         keep(&mut self.last, &news, now);
+        self.calm = Calm::from(
+            now,
+            self.listener.locked,
+            self.listener.yellow,
+            &self.last,
+            &self.track,
+            &self.alarms,
+        );
         heard.news = news;
         heard.taken = taken;
         fresh
     }
 
-    /// The frame of the next slot, in which the message of the newest own sample may begin.
-    pub(crate) fn slot(&mut self, me: Station, now: Ticks, newest: Option<Numbered>) -> Outgoing
-        requires { self.old.station ≢ me }
-        ensures { SendsSlot me now newest self.old self.new result }
+    /// Writes the frame of the next slot, in which the message of the newest own sample may begin, into an answer to the peer.
+    pub(crate) fn slot(
+        &mut self,
+        me: Station,
+        now: Ticks,
+        newest: &Option<Numbered>,
+        out: &mut Outgoing,
+    )
+        requires other { self.old.station ≢ me }
+        requires nothing { (out.old.to ≡ self.old.station) × (out.old.begun ≡ None) }
+        ensures { SendsSlot me now newest.now self.old self.new out.new }
     {
-        // A message that can't begin need not be made.
-        let sample = self.ready(newest);
-        let ready = message_of(me, self.station, now, &self.last, sample);
-        let mut begun = None;
-        let bytes = self.talker.slot(ready, !self.listener.locked, &mut begun);
-        Outgoing {
-            to: self.station,
-            bytes,
-            begun,
+        // Most slots carry on a message that has begun.
+        if !self.talker.in_flight() {
+            self.begin(me, now, newest, &mut out.begun);
         }
+        self.talker.slot(!self.listener.locked, &mut out.bytes);
     }
 
-    // The newest own sample, where a message of it can begin with the next slot.
-    fn ready(&self, newest: Option<Numbered>) -> Option<Numbered>
-        ensures { (f : Fields) (slots : List (Slot Contents)) → Talks f self.now.talker slots
-            → (message : Numbered → Contents) → ((sample : Numbered) → (message sample).number ≡ sample.number)
-            → begins f.channels slots (option_map message result) ≡ begins f.channels slots (option_map message newest) }
+    // Begins the message of the newest own sample, and tells it in `begun`, where it can begin with the next slot.
+    #[inline(never)]
+    fn begin(
+        &mut self,
+        me: Station,
+        now: Ticks,
+        newest: &Option<Numbered>,
+        begun: &mut Option<Message>,
+    )
+        requires other { self.old.station ≢ me }
+        requires nothing { begun.old ≡ None }
+        ensures begins { (f : Fields) (slots : List (Slot Contents)) → Talks f self.old.talker slots
+            → Begins f self.new.talker slots (option_map (message_of me self.old.station now (echo_of self.old.last)) newest.now) begun.new }
+        ensures rest { self.new ≡ record self.old { talker = self.new.talker } }
     {
-        let sample = newest?;
-        if self.talker.takes(sample.number) {
-            Some(sample)
-        } else {
-            None
+        let Some(sample) = newest else {
+            return;
+        };
+        if !self.talker.takes(sample.number) {
+            return;
         }
+        let message = message_of(me, self.station, now, &self.last, *sample);
+        self.talker.begin(&message);
+        *begun = Some(message);
     }
 
     /// A call on a wire to or from the peer failed.
     pub(crate) fn fault(&mut self)
         ensures station { self.new.station ≡ self.old.station }
         ensures alarms { self.new.alarms ≡ self.old.alarms }
+        ensures calm { IsCalmTrue self.new }
         ensures follows { (f : Fields) (me at : ℕ) (calls : List Call) → Follows f me calls self.old
             → Follows f me (calls ++ faults at self.old.station ∷ []) self.new }
     {
         self.faulty = true;
+        self.calm = Calm::never();
     }
 
     /// Turns the peer's alarms by what is known at the terminal's time, and adds those that changed to these changes.
     #[inline(always)]
     pub(crate) fn turn(&mut self, since: Ticks, now: Ticks, changes: &mut Changes)
-        requires { length changes.old.items + 5 ≤ 10 }
+        requires few { length changes.old.items + 5 ≤ 10 }
+        requires calm { IsCalmTrue self.old }
         ensures turned { self.new ≡ turned since now self.old }
         ensures changes { changes.new.items ≡ changes.old.items ++ told since now self.old }
     {
-        // Nearly always nothing changes.
-        if !self.alarms.are_steady(&self.facts(since, now)) {
-            self.change(since, now, changes);
+        // Nearly always it is known that nothing changes.
+        if !self.calm.holds(now) {
+            self.look(since, now, changes);
         }
     }
 
-    // The same where some of them change.
-    #[cold]
+    // The same where that isn't known.
     #[inline(never)]
-    fn change(&mut self, since: Ticks, now: Ticks, changes: &mut Changes)
-        requires { length changes.old.items + 5 ≤ 10 }
+    fn look(&mut self, since: Ticks, now: Ticks, changes: &mut Changes)
+        requires few { length changes.old.items + 5 ≤ 10 }
+        requires awake { holds self.old.calm now ≡ false }
         ensures turned { self.new ≡ turned since now self.old }
         ensures changes { changes.new.items ≡ changes.old.items ++ told since now self.old }
     {
+        self.calm = Calm::never();
         let facts = self.facts(since, now);
         let turns = self.alarms.update(&facts);
         add(changes, self.station, &turns);
+    }
+
+    // What of the peer's channel goes straight into its alarms.
+    fn state(&self) -> (bool, bool, bool)
+        ensures { result ≡ (self.now.listener.locked, self.now.listener.yellow, self.now.faulty) }
+    {
+        (self.listener.locked, self.listener.yellow, self.faulty)
     }
 
     // What is known of the peer's channel.
@@ -248,20 +291,19 @@ fn message_of(
     peer: Station,
     now: Ticks,
     last: &Option<Receipt>,
-    sample: Option<Numbered>,
-) -> Option<Message>
+    sample: Numbered,
+) -> Message
     requires { peer ≢ me }
-    ensures { result ≡ option_map (message_of me peer now (echo_of last.now)) sample }
+    ensures { result ≡ message_of me peer now (echo_of last.now) sample }
 {
-    let sample = sample?;
-    Some(Message {
+    Message {
         from: me,
         to: peer,
         number: sample.number,
         sent: now.get(),
         echo: echo_of(last),
         phases: sample.values,
-    })
+    }
 }
 
 // The echo of a message that was accepted.

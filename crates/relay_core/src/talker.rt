@@ -1,6 +1,6 @@
 //! The sending side of a line: from messages to frames.
 
-ghost use Rattle.std.specs.Prelude.{◌≡◌, ◌≤◌, List, [], None, Some, length, true};
+ghost use Rattle.std.specs.Prelude.{◌≡◌, List, [], None, Option, Some, true};
 ghost use Rattle.ld_base.specs.Message.{Contents};
 ghost use Rattle.ld_base.specs.declared.fields.Fields.{Fields};
 ghost use Rattle.payload_map.specs.Sent.{Slot};
@@ -30,28 +30,25 @@ impl Talker {
         }
     }
 
-    /// The frame of the next slot. The message that is ready begins where none is in flight and its number is above that of the
-    /// last one that began: then it is told in `begun`, where nothing stood.
-    pub(crate) fn slot(
-        &mut self,
-        ready: Option<Message>,
-        yellow: bool,
-        begun: &mut Option<Message>,
-    ) -> [u8; 32]
-        requires { begun.old ≡ None }
-        ensures { (f : Fields) (slots : List (Slot Contents)) → Talks f self.old slots
-            → Speaks f self.new slots ready yellow (record { bytes = result; begun = begun.new }) }
+    /// Writes the frame of the next slot over all that was in `frame`. Before it a message has begun, or none did.
+    pub(crate) fn slot(&mut self, yellow: bool, frame: &mut [u8; 32])
+        ensures { (f : Fields) (slots : List (Slot Contents)) (ready begun : Option Contents) → Begins f self.old slots ready begun
+            → Speaks f self.new slots ready yellow (record { bytes = frame.new; begun = begun }) }
     {
-        if let Some(message) = ready {
-            self.begin(&message, begun);
-        }
-        self.outlet.slot(yellow)
+        self.outlet.slot_into(yellow, frame);
+    }
+
+    /// Whether a message is in flight. Then none begins with the next slot, whichever is ready.
+    pub(crate) fn in_flight(&self) -> bool
+        ensures { (f : Fields) (slots : List (Slot Contents)) (ready : Option Contents) → Talks f self.now slots → result ≡ true
+            → Begins f self.now slots ready None }
+    {
+        self.outlet.in_flight()
     }
 
     /// Whether a message of that number can begin with the next slot.
     pub(crate) fn takes(&self, number: u32) -> bool
-        ensures takes { (f : Fields) (slots : List (Slot Contents)) → Talks f self.now slots → result ≡ can_begin f.channels slots number }
-        ensures idle { result ≡ true → length self.now.outlet.left ≤ 0 }
+        ensures { (f : Fields) (slots : List (Slot Contents)) → Talks f self.now slots → result ≡ can_begin f.channels slots number }
     {
         if self.outlet.in_flight() {
             return false;
@@ -59,17 +56,12 @@ impl Talker {
         self.next <= u64::from(number)
     }
 
-    // Loads a message and tells it, where it begins with the next slot. Most slots begin none, and need not carry what this takes.
-    #[inline(never)]
-    fn begin(&mut self, message: &Message, begun: &mut Option<Message>)
-        requires { begun.old ≡ None }
-        ensures { (f : Fields) (slots : List (Slot Contents)) → Talks f self.old slots → Begins f self.new slots (Some message.now) begun.new }
+    /// Loads a message that can begin with the next slot.
+    pub(crate) fn begin(&mut self, message: &Message)
+        ensures { (f : Fields) (slots : List (Slot Contents)) → Talks f self.old slots → can_begin f.channels slots message.now.number ≡ true
+            → Begins f self.new slots (Some message.now) (Some message.now) }
     {
-        if !self.takes(message.number) {
-            return;
-        }
         let _ = self.outlet.load(encode(message));
         self.next = u64::from(message.number) + 1;
-        *begun = Some(*message);
     }
 }

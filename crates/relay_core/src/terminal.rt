@@ -1,6 +1,6 @@
 //! The calls of a terminal.
 
-ghost use Rattle.std.specs.Prelude.{◌≡◌, ◌≢◌, ◌≤◌, ◌++◌, ◌∷◌, [], ℕ, List, IfOk, None, OnOk, All, ◌<◌, filter, length, map, Some, slice_get, slice_index_or, option_map};
+ghost use Rattle.std.specs.Prelude.{◌≡◌, ◌≢◌, ◌≤◌, ◌++◌, ◌∷◌, [], ℕ, List, IfOk, None, OnOk, All, filter, length, map, Some, slice_get, option_map};
 ghost use Rattle.std.specs.List.{flat_map};
 ghost use Rattle.std.specs.Option.{ForSome, option_to_list};
 ghost use Rattle.ld_base.specs.declared.fields.Fields.{Fields};
@@ -9,16 +9,15 @@ ghost use Rattle.sample_store.specs.JudgedSet.{JudgedSet};
 ghost use Rattle.sample_store.specs.Offers.{Offer};
 ghost use Rattle.relay_core.specs.Decides.{Decides};
 ghost use Rattle.relay_core.specs.Decided.{newest_after};
-ghost use Rattle.relay_core.specs.Follows.{Follows, SendsSlot, Signals, values_in};
+ghost use Rattle.relay_core.specs.Follows.{Follows, Signals, values_in};
 ghost use Rattle.relay_core.specs.Line.{Gots};
 ghost use Rattle.relay_core.specs.Log.{Call, clock, is_peer, peers};
 ghost use Rattle.relay_core.specs.Log as log;
 ghost use Rattle.relay_core.specs.Log.Call.{faults, hears, samples, sends};
+ghost use Rattle.relay_core.specs.Sends.{SendsAll};
 ghost use Rattle.relay_core.specs.StandsFor.{IsPeerOf, StandsFor, span_with};
-ghost use Rattle.relay_core.specs.Turned.{told, turned};
+ghost use Rattle.relay_core.specs.Turned.{IsCalmTrue, told, turned};
 ghost use Rattle.relay_core.specs.declared.answers.News.TheVariants as news;
-ghost use Rattle.relay_core.specs.declared.answers.Outgoing.{Outgoing};
-ghost use Rattle.relay_core.specs.declared.peer.Peer.{Peer};
 ghost use Rattle.relay_message.specs.Messages.{added};
 
 use crate::decider::Decider;
@@ -130,11 +129,11 @@ impl Terminal {
         send_to_all(
             &mut self.peers,
             self.me,
+            since,
             now,
-            self.newest,
-            &mut slotted.frames,
+            &self.newest,
+            &mut slotted,
         );
-        turn_all(&mut self.peers, since, now, &mut slotted.changes);
         slotted
     }
 
@@ -261,6 +260,7 @@ fn peers_of(alloc: Global, s: &Settings, me: Station) -> Result<Vec<Peer>, NoMem
     ensures stations { IfOk result (λ peers. map (λ p. p.station) peers.items ≡ log.peers s.now me) }
     ensures follow { IfOk result (λ peers. All (Follows s.now me []) peers.items) }
     ensures signal { IfOk result (λ peers. All (Signals s.now me []) peers.items) }
+    ensures calm { IfOk result (λ peers. All IsCalmTrue peers.items) }
 {
     let mut peers = Vec::with_capacity(alloc, 2)?;
     add_peer(&mut peers, s, me, 1)?;
@@ -276,6 +276,7 @@ fn add_peer(peers: &mut Vec<Peer>, s: &Settings, me: Station, number: u8) -> Res
         ≡ map (λ p. p.station) peers.old.items ++ filter (is_peer s.now me) (number ∷ [])) }
     ensures follow { OnOk result (All (Follows s.now me []) peers.old.items → All (Follows s.now me []) peers.new.items) }
     ensures signal { OnOk result (All (Signals s.now me []) peers.old.items → All (Signals s.now me []) peers.new.items) }
+    ensures calm { OnOk result (All IsCalmTrue peers.old.items → All IsCalmTrue peers.new.items) }
 {
     if number > s.fields().stations || number == me.get() {
         return Ok(());
@@ -306,23 +307,31 @@ fn newest_after(newest: Option<Numbered>, own: OwnTaken, v: Phases) -> Option<Nu
     }
 }
 
-// The frames of the next slot, one to each peer, where there were none before.
+// The frames of the next slot, one to each peer, and the alarms that turned, where nothing was told before.
 fn send_to_all(
     peers: &mut [Peer],
     me: Station,
+    since: Ticks,
     now: Ticks,
-    newest: Option<Numbered>,
-    frames: &mut ArrayVec<Outgoing, 2>,
+    newest: &Option<Numbered>,
+    slotted: &mut Slotted,
 )
     requires few { length peers.old ≤ 2 }
     requires others { All (λ p. p.station ≢ me) peers.old }
-    requires none { frames.old.items ≡ [] }
-    ensures count { (length peers.new ≡ length peers.old) × (length frames.new.items ≡ length peers.old) }
-    ensures each { (k : ℕ) (p q : Peer) (o : Outgoing) → k < length peers.old
-        → SendsSlot me now newest (slice_index_or peers.old k p) (slice_index_or peers.new k q) (slice_index_or frames.new.items k o) }
+    requires calm { All IsCalmTrue peers.old }
+    requires none { (slotted.old.frames.items ≡ []) × (slotted.old.changes.items ≡ []) }
+    ensures { SendsAll me since now newest.now peers.old peers.new slotted.new.frames.items slotted.new.changes.items }
 {
     for peer in peers.iter_mut() {
-        frames.push(peer.slot(me, now, newest));
+        let place = slotted.frames.len();
+        // The frame is written where it is told.
+        slotted.frames.push(Outgoing {
+            to: peer.station,
+            bytes: [0; 32],
+            begun: None,
+        });
+        peer.slot(me, now, newest, &mut slotted.frames[place]);
+        peer.turn(since, now, &mut slotted.changes);
     }
 }
 
@@ -330,6 +339,7 @@ fn send_to_all(
 #[inline(always)]
 fn turn_all(peers: &mut [Peer], since: Ticks, now: Ticks, changes: &mut Changes)
     requires few { length peers.old ≤ 2 }
+    requires calm { All IsCalmTrue peers.old }
     requires none { changes.old.items ≡ [] }
     ensures turned { peers.new ≡ map (turned since now) peers.old }
     ensures changes { changes.new.items ≡ flat_map (told since now) peers.old }

@@ -1,5 +1,6 @@
 use Rattle.std.proofs.Common.{[]}
 use Rattle.relay_core.specs.Follows.{Follows, Signals}
+use Rattle.relay_core.specs.Turned.{IsCalmTrue}
 use Rattle.relay_core.proofs.InPlace.{All-none}
 use Rattle.relay_core.proofs.terminal.peers_of.Goals as goal
 
@@ -12,3 +13,8 @@ pub returns-clause-signal : goal.returns-clause-signal
 returns-clause-signal c =
     let none = All-none (Signals c.args.s.now c.args.me []) _ c.in_ok-peers.ensures.items in
     c.in_ok-add_peer-3.ensures.signal (c.in_ok-add_peer-2.ensures.signal (c.in_ok-add_peer.ensures.signal none))
+
+pub returns-clause-calm : goal.returns-clause-calm
+returns-clause-calm c =
+    let none = All-none IsCalmTrue _ c.in_ok-peers.ensures.items in
+    c.in_ok-add_peer-3.ensures.calm (c.in_ok-add_peer-2.ensures.calm (c.in_ok-add_peer.ensures.calm none))

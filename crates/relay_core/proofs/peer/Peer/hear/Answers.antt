@@ -15,7 +15,7 @@ none_of : {A : Type 0} (option : Option A) → is_some option ≡ false → opti
 none_of None e = refl
 none_of (Some x) e = absurd (cc)
 
-nothing : (c : goal.Then-is_none) (f : Fields) (calls : List Call) (at : ℕ) → Follows f c.args.me calls c.args.self.now
+nothing : (c : goal.After-self-then-is_none-1) (f : Fields) (calls : List Call) (at : ℕ) → Follows f c.args.me calls c.args.self.now
     → c.args.now ≡ now (calls ++ hears at c.args.self.now.station c.args.chunk.now ∷ [])
     → AreHeard f c.args.me at c.args.now calls c.args.self.now c.args.chunk.now c.hear-told.result news.Nothing
 nothing c f calls at follows time =
@@ -31,7 +31,7 @@ nothing c f calls at follows time =
 pub returns-then-is_none-clause-follows : goal.returns-then-is_none-clause-follows
 returns-then-is_none-clause-follows c = λ f calls at follows time.
     let p = c.args.self.now in
-    Follows-hears f c.args.me at c.args.now calls p c.args.chunk.now c.hear-told.result news.Nothing c.hear-told.new.self p.track p.last
+    Follows-hears f c.args.me at c.args.now calls p c.args.chunk.now c.hear-told.result news.Nothing c.hear-told.new.self p.track p.last _
     (nothing c f calls at follows time) (c.hear-told.ensures.stands f _ follows.listens) (refl, refl)
     (subst (track.StandsFor p.track) (sym (append-nil (Exchanges f c.args.me p.station calls))) follows.track) refl
 
@@ -48,7 +48,7 @@ returns-clause-follows c = λ f calls at follows time.
     let heard : AreHeard f c.args.me at c.args.now calls p c.args.chunk.now c.hear-told.result c.news_of-news.result =
     record { is_time = time; follows = follows; tells = c.hear-told.ensures.tells f _ follows.listens; says = c.news_of-news.ensures } in
     Follows-hears f c.args.me at c.args.now calls p c.args.chunk.now c.hear-told.result c.news_of-news.result c.hear-told.new.self c.exchanged-taken.new.kept
-    c.keep.new.last heard (c.hear-told.ensures.stands f _ follows.listens) c.exchanged-taken.ensures.settings
+    c.keep.new.last _ heard (c.hear-told.ensures.stands f _ follows.listens) c.exchanged-taken.ensures.settings
     (c.exchanged-taken.ensures.stands (Exchanges f c.args.me p.station calls) follows.track) c.keep.ensures
 
 pub returns-clause-brings : goal.returns-clause-brings

@@ -11,10 +11,10 @@ use Rattle.relay_core.specs.Log.Call.{hears}
 use Rattle.relay_core.specs.StandsFor.{StandsFor, kept_of}
 use Rattle.relay_core.specs.Turned.{told, turned}
 use Rattle.relay_core.specs.declared.answers.Heard.{Heard}
-use Rattle.relay_core.proofs.Changing.{IsAt-place, stations-set}
+use Rattle.relay_core.proofs.Changing.{IsAt-place, calm-set, stations-set}
 use Rattle.relay_core.proofs.Lists.{written-mapped}
 use Rattle.relay_core.proofs.Receiving.{IsReceived, Offers-hears, Received, Served-hears, chosen-brought}
-use Rattle.relay_core.proofs.Standing.{IsServed, StandsFor-turned, changes-turned, decided-later, judged_by-offers, stations-turned}
+use Rattle.relay_core.proofs.Standing.{IsServed, StandsFor-turned, calm-turned, changes-turned, decided-later, judged_by-offers, stations-turned}
 use Rattle.relay_core.proofs.terminal.Terminal.bits.Goals as goal
 
 -- what the bits bring
@@ -101,6 +101,10 @@ returns-clause-stands c = λ calls stands.
     StandsFor-turned t calls (hears c.args.now c.args.peer c.args.chunk.now) span t.newest c.put.new.decider (set t.peers place y) _ (served c calls stands)
     (written-mapped (turned span.since span.now) (with_item c.self.inside.peers place y) _ c.turn_all.new.peers c.deref_mut.ensures.value c.turn_all.ensures.turned)
 
+pub turn_all-requires-clause-calm : goal.turn_all-requires-clause-calm
+turn_all-requires-clause-calm c = rw (c.deref_mut.ensures.value)
+    (calm-set c.self.inside.peers.items c.place_of-place.result c.hear-fresh.new.self c.self.invariant.calm c.hear-fresh.ensures.calm)
+
 pub invariant_of-self : goal.invariant_of-self
 invariant_of-self c =
     let t = kept_of c.self.inside in
@@ -116,6 +120,7 @@ invariant_of-self c =
       me = c.self.invariant.me;
       peers = stations-turned span.since span.now (set t.peers place y) _ (log.peers t.settings t.me) peers
           (stations-set t.settings t.me t.peers place c.args.peer x y at c.hear-fresh.ensures.station ∙ c.self.invariant.peers);
+      calm = calm-turned span.since span.now (set t.peers place y) _ peers (calm-set t.peers place y c.self.invariant.calm c.hear-fresh.ensures.calm);
       decider = (c.put.ensures.settings.0 ∙ c.self.invariant.decider.0, c.put.ensures.settings.1 ∙ c.self.invariant.decider.1);
       decided = c.put.ensures.now span.now early (at-most c.hear-fresh.result span.now c.hear-fresh.ensures.at);
     }

@@ -6,11 +6,15 @@ use Rattle.relay_core.specs.Log as log
 use Rattle.relay_core.specs.Log.Call.{faults}
 use Rattle.relay_core.specs.StandsFor.{StandsFor, kept_of}
 use Rattle.relay_core.specs.Turned.{told, turned}
-use Rattle.relay_core.proofs.Changing.{IsAt-place, station-at, stations-set}
+use Rattle.relay_core.proofs.Changing.{IsAt-place, calm-set, station-at, stations-set}
 use Rattle.relay_core.proofs.Lists.{written-mapped}
 use Rattle.relay_core.proofs.Receiving.{Served-faults}
-use Rattle.relay_core.proofs.Standing.{IsServed, StandsFor-turned, changes-turned, decided-later, stations-turned}
+use Rattle.relay_core.proofs.Standing.{IsServed, StandsFor-turned, calm-turned, changes-turned, decided-later, stations-turned}
 use Rattle.relay_core.proofs.terminal.Terminal.fault.Goals as goal
+
+pub turn_all-requires-clause-calm : goal.turn_all-requires-clause-calm
+turn_all-requires-clause-calm c = rw (c.deref_mut.ensures.value)
+    (calm-set c.self.inside.peers.items c.place_of-place.result c.fault.new.self c.self.invariant.calm c.fault.ensures.calm)
 
 pub invariant_of-self : goal.invariant_of-self
 invariant_of-self c =
@@ -24,6 +28,7 @@ invariant_of-self c =
       me = c.self.invariant.me;
       peers = stations-turned span.since span.now (set t.peers place c.fault.new.self) _ (log.peers t.settings t.me) peers
           (stations-set t.settings t.me t.peers place c.args.peer c.index_mut.result.now c.fault.new.self at c.fault.ensures.station ∙ c.self.invariant.peers);
+      calm = calm-turned span.since span.now (set t.peers place c.fault.new.self) _ peers (calm-set t.peers place c.fault.new.self c.self.invariant.calm c.fault.ensures.calm);
       decider = c.self.invariant.decider;
       decided = decided-later c.self.inside.span c.args.now c.self.inside.decider.store.now span c.span_with-span.ensures c.self.invariant.decided;
     }

@@ -9,7 +9,7 @@ use Rattle.relay_core.specs.StandsFor.{StandsFor, kept_of}
 use Rattle.relay_core.specs.Turned.{told, turned}
 use Rattle.relay_core.proofs.Lists.{written-mapped}
 use Rattle.relay_core.proofs.Sampling.{Offers-samples, Served-samples}
-use Rattle.relay_core.proofs.Standing.{IsServed, StandsFor-turned, changes-turned, judged_by-offers, span-served, stations-turned}
+use Rattle.relay_core.proofs.Standing.{IsServed, StandsFor-turned, calm-turned, changes-turned, judged_by-offers, span-served, stations-turned}
 use Rattle.relay_core.proofs.terminal.Terminal.sample.Goals as goal
 
 pub invariant_of-self : goal.invariant_of-self
@@ -19,6 +19,7 @@ invariant_of-self c =
     record {
       me = c.self.invariant.me;
       peers = stations-turned span.since span.now c.self.inside.peers.items _ (log.peers c.self.inside.settings c.self.inside.me) peers c.self.invariant.peers;
+      calm = calm-turned span.since span.now c.self.inside.peers.items _ peers c.self.invariant.calm;
       decider = (c.own-own.ensures.settings.0 ∙ c.self.invariant.decider.0, c.own-own.ensures.settings.1 ∙ c.self.invariant.decider.1);
       decided = c.own-own.ensures.now;
     }

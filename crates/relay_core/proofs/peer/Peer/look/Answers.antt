@@ -1,7 +1,7 @@
 use Rattle.std.proofs.Common.{◌++◌, ◌∙◌, ap, map}
 use Rattle.channel_alarm.specs.Alarms.{is_on, stands, turns}
 use Rattle.relay_core.specs.declared.answers.Change.{Change}
-use Rattle.relay_core.proofs.peer.Peer.change.Goals as goal
+use Rattle.relay_core.proofs.peer.Peer.look.Goals as goal
 
 pub returns-clause-changes : goal.returns-clause-changes
 returns-clause-changes c =
