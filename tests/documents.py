@@ -45,13 +45,27 @@ def lost_files(name, folder):
     return lost
 
 
+def links():
+    """Each link of a document leads to a heading of another."""
+    for name in ["README.md"] + sorted("docs/" + name for name in os.listdir(os.path.join(ROOT, "docs"))):
+        lost = []
+        for target in re.findall(r"\]\(([^)]*)\)", text_of(name)):
+            page, _, anchor = target.partition("#")
+            path = os.path.normpath(os.path.join(os.path.dirname(name), page)) if page else name
+            headings = re.findall(r"(?m)^#+ (.*)", text_of(path)) if os.path.isfile(os.path.join(ROOT, path)) else []
+            if anchor and anchor not in [re.sub(r"[^\w -]", "", heading).lower().replace(" ", "-") for heading in headings]:
+                lost.append(target)
+        yield "%s links to headings that are there" % name, lost, []
+
+
 def cases():
     found = {names_in(row[0])[0]: names_in(*row[2:]) for row in rows("docs/ARCHITECTURE.md", "Crates")}
     yield "ARCHITECTURE.md has the crates", list(found), list(crates())
     for name, below in crates().items():
         yield "ARCHITECTURE.md has what %s stands on" % name, found.get(name), below
-    proved = sorted(name for row in rows("README.md", "What is proved") for name in names_in(row[0]))
-    yield "the README says what is proved of each crate", proved, sorted(crates())
+    yield from links()
+    yield "the README has at most 100 lines", len(text_of("README.md").splitlines()) <= 100, True
+    yield "no line of the README has more than 500 characters", [line for line in text_of("README.md").splitlines() if len(line) > 500], []
     yield "RULES.md names the files that are there", lost_files("docs/RULES.md", ""), []
     yield "ARCHITECTURE.md names the files that are there", lost_files("docs/ARCHITECTURE.md", "crates"), []
     commands = [part.split() for part in USAGE.removeprefix("usage: linediff ").split(" | ")]
@@ -71,8 +85,8 @@ def cases():
         yield "FORMATS.md numbers the rules of %s" % heading, told - set(reasons), set()
     numbers = sorted({row[0] for row in rows("docs/FORMATS.md", "Rules of a scenario")})
     yield "FORMATS.md has each rule of a scenario", numbers, sorted(number for _, number in reasons)
-    statuses = [row[0] for row in rows("docs/FORMATS.md", "Exit status")]
+    statuses = [row[0] for row in rows("docs/FORMATS.md", "What a command answers")]
     yield "FORMATS.md has each status", statuses, ["0", "2", "3", "4", "5", "6", "7"]
-    yield "FORMATS.md has the usage line", "`%s`" % USAGE.replace("|", "\\|") in rows("docs/FORMATS.md", "Exit status")[1], True
+    yield "FORMATS.md has the usage line", "`%s`" % USAGE.replace("|", "\\|") in rows("docs/FORMATS.md", "What a command answers")[1], True
     examples = sorted(name for _, _, names in os.walk(os.path.join(ROOT, "examples")) for name in names if name != "README.md")
     yield "examples/README.md has each example", [name for name in examples if "`%s`" % name not in text_of("examples/README.md")], []
