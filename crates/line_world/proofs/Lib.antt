@@ -1,35 +1,35 @@
-mod FrameBits
-mod Acts
-mod Queues
-mod NextTicks
-mod Stationing
-mod Slotting
-mod Passing
-mod Turning
-mod Asking
-mod Ways
-mod Cabling
-mod Moments
-mod Quiets
-mod FirstSlots
-mod Frames
-mod SampleTicks
-mod Speaking
-mod Sampling
-mod Leasts
-mod Idle
-mod Stepping
-mod Beginnings
-mod Ledgers
-mod Entries
-mod Tallies
-mod LineLists
-mod Rising
-mod InForces
-mod Rooms
-mod Accounts
-mod LedgerWays
-mod Departures
-mod Receipts
-mod Errors
-mod Firsts
+pub mod FrameBits
+pub mod Acts
+pub mod Queues
+pub mod NextTicks
+pub mod Stationing
+pub mod Slotting
+pub mod Passing
+pub mod Turning
+pub mod Asking
+pub mod Ways
+pub mod Cabling
+pub mod Moments
+pub mod Quiets
+pub mod FirstSlots
+pub mod Frames
+pub mod SampleTicks
+pub mod Speaking
+pub mod Sampling
+pub mod Leasts
+pub mod Idle
+pub mod Stepping
+pub mod Beginnings
+pub mod Ledgers
+pub mod Entries
+pub mod Tallies
+pub mod LineLists
+pub mod Rising
+pub mod InForces
+pub mod Rooms
+pub mod Accounts
+pub mod LedgerWays
+pub mod Departures
+pub mod Receipts
+pub mod Errors
+pub mod Firsts
