@@ -1,3 +1,4 @@
+pub mod AcceptedRows
 pub mod ClockFacts
 pub mod ColumnFacts
 pub mod DraftFacts

@@ -1,12 +1,13 @@
 //! The laws of scenarios, each the contract of a function that does nothing but name the laws on which it rests.
 
-ghost use Rattle.std.specs.Prelude.{◌≡◌, ℕ, ℤ, ◌<◌, ◌≤◌, List, All, AllPairs, Contains, unsigned_abs};
+ghost use Rattle.std.specs.Prelude.{◌≡◌, ℕ, ℤ, ◌<◌, ◌≤◌, List, All, AllPairs, Contains, Ok, unsigned_abs};
 ghost use Rattle.ld_base.specs.Phases.{no_current};
 ghost use Rattle.pingpong.specs.Clock.{Course, reading};
 ghost use Rattle.pingpong.specs.Journal.{IsJournal};
 ghost use Rattle.pingpong.specs.Reading.{WithinDrift};
 ghost use Rattle.pingpong.specs.declared.journal.Entry.{Entry};
-ghost use Rattle.waveform_reader.specs.Scenario.{Setup, phases_at};
+ghost use Rattle.row_reader.specs.Rows.{Row};
+ghost use Rattle.waveform_reader.specs.Scenario.{Setup, phases_at, scenario_of};
 ghost use Rattle.waveform_reader.specs.Shapes.{value_at, wave_value};
 ghost use Rattle.waveform_reader.specs.Sound.{ArePhases, IsSetup};
 
@@ -42,4 +43,9 @@ pub fn values_are_of_the_converter()
 pub fn a_station_that_is_not_there_has_no_current()
     ensures { (s : Setup) (station t : ℕ) → IsSetup s → s.settings.stations < station
         → value_at s.settings s.shapes station t ≡ no_current }
+{}
+
+/// The scenario of rows that break no rule keeps what every scenario keeps.
+pub fn accepted_rows_make_a_scenario()
+    ensures { (rows : List Row) (s : Setup) → scenario_of rows ≡ Ok s → IsSetup s }
 {}
