@@ -100,6 +100,13 @@ def worked():
     yield "unequal delays shift the estimate", (unequal[first + 1], rest), ("set,8750,1,5,WWW", done)
     yield "unequal delays restrain", set(sets(unequal, 1).values()) | set(sets(unequal, 2).values()), {"WWW", "RRR"}
 
+    # Station 2 begins a message at 4875 and at 5875, and that of station 1 comes at 1000 + 875 + 3005 = 4880. So the echo is back at
+    # 5875 + 875 + 3000 = 9750, before the tick 4 * 1000 + 6005 + 400 from which on the alarm can't be on.
+    late, rest = bench([row.replace("1,2,3000", "1,2,3005") for row in LOAD])
+    told = [line for line in late if line.startswith("alarm,") and "Unaligned" in line]
+    turns = ["alarm,0,1,2,Unaligned,on", "alarm,0,2,1,Unaligned,on", "alarm,8880,2,1,Unaligned,off", "alarm,9750,1,2,Unaligned,off"]
+    yield "a message that just misses a slot", (told, rest), (turns, done)
+
     steady, rest = bench(LOAD[:10] + ["hold,0,1,30000,30000,30000", "hold,0,2,30000,30000,30000"])
     yield "a constant is no current", ({letters for n, letters in sets(steady, 1).items() if n >= 24}, rest), ({"RRR"}, done)
 

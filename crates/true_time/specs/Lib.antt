@@ -1,0 +1,6 @@
+pub mod Places
+pub mod Receipts
+pub mod Estimates
+pub mod Values
+pub mod Lines
+pub mod TrueTime
