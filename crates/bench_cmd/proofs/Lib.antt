@@ -5,3 +5,4 @@ pub mod Reporting
 pub mod RowNumbers
 pub mod Showing
 pub mod TransferFacts
+pub mod TrueRuns

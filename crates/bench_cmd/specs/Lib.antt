@@ -12,3 +12,4 @@ pub mod ReportText
 pub mod ScriptWires
 pub mod Statuses
 pub mod Transfers
+pub mod TrueRuns

@@ -2,14 +2,22 @@
 
 ghost use Rattle.std.specs.Prelude.{◌≡◌, ◌≤◌, ◌++◌, ◌∷◌, [], Some, IfOk, OnOk, filter, length, map, nat_le};
 ghost use Rattle.bench_cmd.specs.ReportText.{report_of, totals_of};
+ghost use Rattle.bench_cmd.specs.TrueRuns.{KeepsCalm};
+ghost use Rattle.calm_channel.specs.Calm.{IsCalm};
 ghost use Rattle.line_world.specs.Occasions.{stations as stations_of, ways};
 ghost use Rattle.line_world.specs.Run.{Run, lines_of};
 ghost use Rattle.line_world.specs.Worlds.{FollowsScript, HasEnded, IsWorld};
+ghost use Rattle.true_time.specs.TrueTime.{KeepsTrueTime};
 
 use crate::report_text::report_text;
+use calm_channel::laws::{
+    a_calm_run_is_honest, an_exchange_is_in_force_from_a_tick_on, every_message_comes_at_its_tick,
+    no_alarm_unaligned_turns_on_from_a_tick_on,
+};
 use ld_base::{NoMemory, Station, Wire};
 use line_world::{Stepped, Total, World};
 use std::alloc::Global;
+use true_time::laws::a_journal_keeps_true_time;
 use waveform_reader::Scenario;
 
 /// The most stations.
@@ -32,6 +40,13 @@ pub fn report<W: Wire>(
     // Over the script wires of the scenario it is the report of its run.
     ensures run { map W.script wires.items ≡ map (λ line. Some line.script) (lines_of scenario.settings scenario.rules)
         → IfOk result (λ made. made.0.journal ≡ Run scenario) }
+
+    // Whatever its wires did, the journal keeps true time.
+    ensures time { IfOk result (λ made. KeepsTrueTime scenario.settings made.0.journal) }
+
+    // Over the script wires of a calm scenario it keeps calm.
+    ensures calm { map W.script wires.items ≡ map (λ line. Some line.script) (lines_of scenario.settings scenario.rules) → IsCalm scenario
+        → IfOk result (λ made. KeepsCalm scenario made.0.journal) }
 {
     let stations = scenario.settings().fields().stations;
     let end = scenario.end();
@@ -39,6 +54,13 @@ pub fn report<W: Wire>(
     run_to_end(&mut world)?;
     let totals = totals_of(alloc, &world, stations)?;
     let text = report_text(alloc, world.lines(), &totals, world.forged(), end)?;
+    // The law is one of the world's journal.
+    let _ = world.journal();
+    a_journal_keeps_true_time();
+    a_calm_run_is_honest();
+    every_message_comes_at_its_tick();
+    an_exchange_is_in_force_from_a_tick_on();
+    no_alarm_unaligned_turns_on_from_a_tick_on();
     Ok((world, text))
 }
 

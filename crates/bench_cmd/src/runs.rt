@@ -6,6 +6,7 @@ ghost use Rattle.bench_cmd.specs.Commands.{IsFitting, command_of};
 ghost use Rattle.row_reader.specs.declared.fault.Fault.{Fault};
 ghost use Rattle.bench_cmd.specs.Outcomes.{IsOutcome};
 ghost use Rattle.bench_cmd.specs.Transfers.{largest_input};
+ghost use Rattle.bench_cmd.specs.TrueRuns.{ReportsTrueTime};
 ghost use Rattle.bench_cmd.specs.declared.command.Command.{Command};
 ghost use Rattle.ld_base.specs.Faults.{Rose};
 
@@ -16,9 +17,15 @@ use crate::input::{Unread, read_input};
 use crate::judge::judge;
 use crate::output::{Outcome, bad_line, write_text};
 use crate::status::Status;
+use calm_channel::laws::{
+    a_calm_run_is_honest, an_exchange_is_in_force_from_a_tick_on, every_message_comes_at_its_tick,
+    no_alarm_unaligned_turns_on_from_a_tick_on,
+};
 use ld_base::{NoMemory, Sink, Source};
 use row_reader::Fault;
 use std::alloc::Global;
+use true_time::laws::a_run_keeps_true_time;
+use waveform_reader::laws::accepted_rows_make_a_scenario;
 
 /// Runs the command of these words, without the program's name, over an input and an output. The input is read to its end
 /// before anything is made of it, and the whole text is made before its first byte is written.
@@ -45,6 +52,10 @@ pub fn run<S: Source, K: Sink>(
         → (S.end source.old).bytes ≡ Some input → largest_input < length input
         → ¬ Rose (S.end source.old).faults (S.end source.new).faults
         → (result ≡ Status.TooLarge) ⊎ (result ≡ Status.NoMemory) }
+
+    // The report that `bench` has written is that of a run which keeps true time, and calm over calm lines.
+    ensures true_time { command_of (map (λ word. word.items) words.now) ≡ Some Command.Bench → result ≡ Status.Done
+        → ReportsTrueTime (S.end source.old) (S.end source.new) (K.end sink.old) (K.end sink.new) }
 {
     let Some(command) = Command::of(words) else {
         return Status::Usage;
@@ -55,6 +66,12 @@ pub fn run<S: Source, K: Sink>(
         Err(Unread::TooLarge) => return Status::TooLarge,
         Err(Unread::NoMemory) => return Status::NoMemory,
     };
+    accepted_rows_make_a_scenario();
+    a_run_keeps_true_time();
+    a_calm_run_is_honest();
+    every_message_comes_at_its_tick();
+    an_exchange_is_in_force_from_a_tick_on();
+    no_alarm_unaligned_turns_on_from_a_tick_on();
     match outcome_of(alloc, command, &input) {
         Ok(outcome) => finish(alloc, &outcome, sink),
         Err(NoMemory) => Status::NoMemory,
