@@ -1,16 +1,19 @@
 -- What `bench` makes of a scenario, or of a text that is none.
-use Rattle.std.proofs.Common.{◌≡◌, ◌∙◌, ap, refl, sym, ℕ, List, [], ◌∷◌, map, Option, Some, Ok, Err}
+use Rattle.std.proofs.Common.{◌≡◌, ◌∙◌, ap, refl, sym, ℕ, List, [], ◌∷◌, ◌++◌, map, Option, Some, Ok, Err}
+use Rattle.std.specs.Prelude.{zip}
 use Rattle.std.proofs.lemmas.List.{map-id}
 use Rattle.std.proofs.lemmas.Simd.{map-map}
 use Rattle.ld_base.specs.Script.{Script}
 use Rattle.ld_base.specs.declared.fields.Fields.{Fields}
 use Rattle.ld_base.specs.declared.rule.Rule.{Rule}
+use Rattle.pingpong.specs.declared.journal.Entry.{Entry}
 use Rattle.row_reader.specs.Rows.{rows_of}
 use Rattle.row_reader.specs.declared.fault.Fault.{Fault}
 use Rattle.waveform_reader.specs.Scenario.{Setup, scenario_of}
 use Rattle.line_world.specs.Occasions.{Way, ways}
-use Rattle.line_world.specs.Passes.{Known, Tell, Told, known, known_of}
+use Rattle.line_world.specs.Passes.{Counted, Known, Tell, Told, counted, counted_after, counted_with, failures, known, known_of, raised}
 use Rattle.line_world.specs.Run.{Directed, Run, lines_of}
+use Rattle.line_world.specs.Worlds.{Grows, World}
 use Rattle.bench_cmd.specs.ReportText.{bench_text, report_of, report_or}
 use Rattle.bench_cmd.specs.ScriptWires.{wire_of, wires_of}
 
@@ -47,6 +50,32 @@ pub tell_lines : (f : Fields) (rules : List Rule) (wires : List Told) → map to
     → map (λ wire. wire.script) wires ≡ map (λ line. Some line.script) (lines_of f rules) → Tell wires (lines_of f rules)
 tell_lines f rules wires are scripts =
     tell_both wires (lines_of f rules) (are ∙ sym (map-id (ways f)) ∙ sym (map-map goes_on _ (ways f))) scripts
+
+-- told wires of these lines, with the faults of these wires, count on as those do
+pub counted_on : {W : Type 0} (faults : W → ℕ) (journal : List Entry) (told : List Told) (lines : List Way) (wires : List W)
+    → map told_on told ≡ lines → map (λ wire. wire.faults) told ≡ map faults wires
+    → map (counted_with journal) told ≡ map (counted_after faults journal) (zip lines wires)
+counted_on faults journal [] [] wires are same = refl
+counted_on faults journal [] (line ∷ lines) wires are same = absurd (cc)
+counted_on faults journal (t ∷ told) [] wires are same = absurd (cc)
+counted_on faults journal (t ∷ told) (line ∷ lines) [] are same = absurd (cc)
+counted_on faults journal (t ∷ told) (line ∷ lines) (wire ∷ wires) are same =
+    let way : told_on t ≡ line = cc in
+    let other_ways : map told_on told ≡ lines = cc in
+    let its : t.faults ≡ faults wire = cc in
+    let others : map (λ (w : Told). w.faults) told ≡ map faults wires = cc in
+    ap (λ (n : ℕ). record { from = t.from; to = t.to; faults = raised (failures t.from t.to journal) n } ∷ map (counted_with journal) told) its
+    ∙ ap (λ (w : Way). counted_after faults journal (w, wire) ∷ map (counted_with journal) told) way
+    ∙ ap (λ (rest : List Counted). counted_after faults journal (line, wire) ∷ rest) (counted_on faults journal told lines wires other_ways others)
+
+-- a world that grew from an empty journal
+pub counted_since : {W : Type 0} (faults : W → ℕ) (start end : World) (lines : List Way) (wires : List W) → start.journal ≡ []
+    → map told_on start.wires ≡ lines → map (λ wire. wire.faults) start.wires ≡ map faults wires → Grows start end
+    → map counted end.wires ≡ map (counted_after faults end.journal) (zip lines wires)
+counted_since faults start end lines wires empty are same grows =
+    let all : end.journal ≡ grows.gained = grows.journal ∙ ap (λ (journal : List Entry). journal ++ grows.gained) empty in
+    grows.faults ∙ ap (λ (journal : List Entry). map (counted_with journal) start.wires) (sym all)
+    ∙ counted_on faults end.journal start.wires lines wires are same
 
 -- the report of the run of a scenario
 pub bench-report : (input : List ℕ) (s : Setup) (text : List ℕ) → scenario_of (rows_of input) ≡ Ok s → text ≡ report_of s (Run s) → bench_text input ≡ Ok text

@@ -1,12 +1,13 @@
 //! A run of a scenario, from its first tick to its end.
 
-ghost use Rattle.std.specs.Prelude.{◌≡◌, ◌≤◌, ◌++◌, ◌∷◌, [], Some, IfOk, OnOk, filter, length, map, nat_le};
+ghost use Rattle.std.specs.Prelude.{◌≡◌, ◌≤◌, ◌++◌, ◌∷◌, List, [], Some, IfOk, OnOk, filter, length, map, nat_le, zip};
 ghost use Rattle.bench_cmd.specs.ReportText.{report_of, totals_of};
 ghost use Rattle.bench_cmd.specs.TrueRuns.{KeepsCalm};
 ghost use Rattle.calm_channel.specs.Calm.{IsCalm};
 ghost use Rattle.line_world.specs.Occasions.{stations as stations_of, ways};
+ghost use Rattle.line_world.specs.Passes.{counted, counted_after};
 ghost use Rattle.line_world.specs.Run.{Run, lines_of};
-ghost use Rattle.line_world.specs.Worlds.{FollowsScript, HasEnded, IsWorld};
+ghost use Rattle.line_world.specs.Worlds.{FollowsScript, Grows, HasEnded, IsOver, IsWorld};
 ghost use Rattle.true_time.specs.TrueTime.{KeepsTrueTime};
 
 use crate::report_text::report_text;
@@ -34,12 +35,19 @@ pub fn report<W: Wire>(
     requires { length wires.items ≡ length (ways scenario.settings) }
     ensures setup { IfOk result (λ made. made.0.setup ≡ scenario) }
     ensures ended { IfOk result (λ made. HasEnded made.0) }
+
+    // Each line has its wire, whose count of faults rose by the calls on it that failed.
+    ensures wires { IfOk result (λ made. map counted made.0.wires
+        ≡ map (counted_after W.faults made.0.journal) (zip (ways scenario.settings) wires.items)) }
+    ensures over { IfOk result (λ made. (held : List W) × IsOver W.faults W.script W.next_tick held made.0) }
     ensures world { IfOk result (λ made. IsWorld made.0) }
     ensures text { IfOk result (λ made. made.1.items ≡ report_of scenario made.0.journal) }
 
     // Over the script wires of the scenario it is the report of its run.
     ensures run { map W.script wires.items ≡ map (λ line. Some line.script) (lines_of scenario.settings scenario.rules)
         → IfOk result (λ made. made.0.journal ≡ Run scenario) }
+    ensures follows { map W.script wires.items ≡ map (λ line. Some line.script) (lines_of scenario.settings scenario.rules)
+        → IfOk result (λ made. FollowsScript made.0) }
 
     // Whatever its wires did, the journal keeps true time.
     ensures time { IfOk result (λ made. KeepsTrueTime scenario.settings made.0.journal) }
@@ -70,6 +78,9 @@ fn run_to_end<W: Wire>(world: &mut World<W>) -> Result<(), NoMemory>
     ensures ended { OnOk result (HasEnded world.new) }
     ensures world { IsWorld world.new }
     ensures run { OnOk result (FollowsScript world.old → world.new.journal ≡ Run world.old.setup) }
+    ensures follows { OnOk result (FollowsScript world.old → FollowsScript world.new) }
+    ensures grows { OnOk result (Grows world.old world.new) }
+    ensures over { OnOk result ((wires : List W) × IsOver W.faults W.script W.next_tick wires world.new) }
 {
     'running: while let Stepped::Went(_) = world.step()? {}
     Ok(())

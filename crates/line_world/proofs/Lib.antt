@@ -18,6 +18,7 @@ pub mod Speaking
 pub mod Sampling
 pub mod Leasts
 pub mod Idle
+pub mod Times
 pub mod Stepping
 pub mod Beginnings
 pub mod Ledgers

@@ -11,6 +11,7 @@ use Rattle.line_world.specs.Occasions.{Moment}
 use Rattle.line_world.specs.Passes.{Counted, Known, Passes, Scene, Tell, Told, counted, counted_with, failures, is_failure, known, known_of, raised}
 use Rattle.line_world.specs.Run.{Directed, State, after}
 use Rattle.line_world.specs.World.{Event, Leads, entries_of, journal_with}
+use Rattle.line_world.specs.Worlds.{Grows, World}
 
 -- no moments
 pub none_passed : (s : Setup) (x : Scene) → Passes s [] x x
@@ -85,6 +86,16 @@ joined s first next x y z a b = record {
             fold-append (after s) (record { journal = x.journal; lines = lines }) first next
             ∙ ap (λ (state : State). fold (after s) state next) before.run ∙ after_that.run;
       };
+}
+
+-- a journal that grows and grows again
+pub grown : (a b c : World) → Grows a b → Grows b c → Grows a c
+grown a b c first next = record {
+  gained = first.gained ++ next.gained;
+  journal = next.journal ∙ ap (λ (journal : List Entry). journal ++ next.gained) first.journal ∙ append_assoc a.journal first.gained next.gained;
+  faults =
+      next.faults ∙ counted-again next.gained b.wires ∙ ap (λ (wires : List Counted). map (counted_on next.gained) wires) first.faults
+      ∙ counted-joined first.gained next.gained a.wires;
 }
 
 -- a moment that leaves the wires as they are

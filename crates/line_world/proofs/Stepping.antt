@@ -7,6 +7,7 @@ use Rattle.std.specs.declared.vec.Vec.{Vec}
 use Rattle.std.proofs.lemmas.List.{append-nil, with_items_is}
 use Rattle.std.proofs.lemmas.List.Elements.{All-cons, All-contains, All-head, All-nil, All-tail, All-weaker}
 use Rattle.std.proofs.lemmas.List.Sums.{fold-append}
+use Rattle.std.proofs.lemmas.Simd.{map-map}
 use Rattle.ld_base.specs.Script.{Script, next_tick}
 use Rattle.ld_base.specs.declared.fields.Fields.{Fields}
 use Rattle.pingpong.specs.declared.journal.Entry.{Entry}
@@ -17,13 +18,14 @@ use Rattle.line_world.specs.Passes.{Known, Passes, Scene, Tell, Told, counted, k
 use Rattle.line_world.specs.Run.{Directed, Run, State, after, lines_of, run_through, start}
 use Rattle.line_world.specs.Tick.{AreLines, CutShort, IsNextSample, IsSample, TellsNext}
 use Rattle.line_world.specs.World.{Leads}
-use Rattle.line_world.specs.Worlds.{AreIdle, FollowsScript, Grows, Halted, HasDone, HasEnded, IsDue, IsIdle, IsNextDue, IsWorld, Went, World, scene}
+use Rattle.line_world.specs.Worlds.{AreIdle, FollowsScript, Grows, Halted, HasDone, HasEnded, IsDue, IsDueByScript, IsIdle, IsNextDue, IsOver, IsWorld, Went, World, scene}
 use Rattle.line_world.specs.Hall.{Hall}
 use Rattle.line_world.specs.Inside.{IsKept, world_of}
 use Rattle.line_world.specs.declared.cable.Cable.{Cable}
 use Rattle.line_world.specs.declared.world.World.TheInside.{Inside}
 use Rattle.line_world.proofs.Idle.{AreQuiet, IsQuiet, IsStill, gives_nothing, idle_leads, idle_runs, moments_none, stays_as_it_is, tick_leads, tick_runs}
 use Rattle.line_world.proofs.Passing.{led}
+use Rattle.line_world.proofs.Times.{times_before, times_skipped}
 
 -- a world before tick 0
 module _ (w : World) (first : w.next ≡ 0) (empty : w.journal ≡ []) where
@@ -259,6 +261,21 @@ quiet_before faults script next from t h (cable ∷ cables) tells early (line �
     (quiet_before faults script next from t h cables (All-tail (TellsNext script next from) cable cables tells)
     (All-tail (λ due. t < due) (next cable.wire from) (map (λ cable. next cable.wire from) cables) early) lines others)
 
+-- and their next ticks are those of the scripts
+pub next_by_script : {W : Type 0} (faults : W → ℕ) (script : W → Option Script) (next : W → ℕ → ℕ) (from : ℕ) (cables : List (Cable W))
+    → All (TellsNext script next from) cables → (lines : List Directed) → Tell (map (told faults script) cables) lines
+    → map (λ cable. next cable.wire from) cables ≡ map (λ line. next_tick line.script from) lines
+next_by_script faults script next from [] tells [] tell = refl
+next_by_script faults script next from [] tells (line ∷ lines) tell = absurd (cc)
+next_by_script faults script next from (cable ∷ cables) tells [] tell = absurd (cc)
+next_by_script faults script next from (cable ∷ cables) tells (line ∷ lines) tell =
+    let one : known (told faults script cable) ≡ known_of line = cc in
+    let others : map known (map (told faults script) cables) ≡ map known_of lines = cc in
+    let its : script cable.wire ≡ Some line.script = ap (λ (k : Known). k.script) one in
+    ap (λ (n : ℕ). n ∷ map (λ cable. next cable.wire from) cables) (All-head (TellsNext script next from) cable cables tells line.script its)
+    ∙ ap (λ (rest : List ℕ). next_tick line.script from ∷ rest)
+    (next_by_script faults script next from cables (All-tail (TellsNext script next from) cable cables tells) lines others)
+
 -- what holds of a scenario, a tick, a journal and some cables holds of equal ones
 pub moved : {C : Type 0} (P : Setup → ℕ → List Entry → C → Type 0) (s t : Setup) (m n : ℕ) (i j : List Entry) (c d : C) → s ≡ t → m ≡ n → i ≡ j → c ≡ d
     → P s m i c → P t n j d
@@ -304,6 +321,15 @@ module _ {W : Type 0} (faults : W → ℕ) (script : W → Option Script) (s : S
       subst (λ all. AreLines new.setup.settings all) (sym (with_items_is cables back long))
       (subst (λ (s : Setup). AreLines s.settings back) (sym e) lines)
 
+-- a world, by what it keeps, is over the wires of its cables
+pub over_its_wires : {W : Type 0} (faults : W → ℕ) (script : W → Option Script) (next_tick : W → ℕ → ℕ) (inside : Inside W)
+    → IsOver faults script next_tick (map (λ cable. cable.wire) inside.cables.items) (world_of faults script next_tick inside)
+over_its_wires faults script next_tick inside = record {
+  faults_told = map-map (λ (t : Told). t.faults) (told faults script) inside.cables.items ∙ sym (map-map faults (λ cable. cable.wire) inside.cables.items);
+  scripts_told = map-map (λ (t : Told). t.script) (told faults script) inside.cables.items ∙ sym (map-map script (λ cable. cable.wire) inside.cables.items);
+  due_next = sym (map-map (λ wire. next_tick wire inside.next) (λ cable. cable.wire) inside.cables.items);
+}
+
 -- a world, by what it keeps, and the least tick that is due
 module _ {W : Type 0} (faults : W → ℕ) (script : W → Option Script) (next_tick : W → ℕ → ℕ) (inside : Inside W) (kept : IsKept faults script next_tick inside)
     (running : inside.halted ≡ false) (settings : Fields) (scenario : Setup) (tick : ℕ) (cables : List (Cable W)) (are_settings : settings ≡ scenario.settings)
@@ -317,6 +343,9 @@ module _ {W : Type 0} (faults : W → ℕ) (script : W → Option Script) (next_
       subst (λ (f : Fields). IsNextDue f.stations old.next inside.samples old.due tick) (are_settings ∙ ap (λ (s : Setup). s.settings) are_scenario)
       (subst (λ (all : List (Cable W)). IsNextDue settings.stations inside.next inside.samples (map (λ cable. next_tick cable.wire inside.next) all) tick) are_cables found)
 
+  pub none_left : All (λ entry. entry.time < old.next) old.journal
+  none_left = times_before old.setup old.next old.journal (came_to old running kept.world)
+
   idle_to : (limit : ℕ) → limit ≤ tick → AreIdle old limit
   idle_to limit h = idle_before old inside.samples tick (kept.samples running) due limit h
 
@@ -329,6 +358,11 @@ module _ {W : Type 0} (faults : W → ℕ) (script : W → Option Script) (next_
   quiet_to limit h tells lines tell t low below =
       quiet_before faults script next_tick inside.next t low inside.cables.items
       (subst (λ (all : List (Cable W)). All (TellsNext script next_tick inside.next) all) are_cables tells) ((idle_to limit h t low below).quiet) lines tell
+
+  pub due_by_script : TellNext → IsDueByScript old
+  due_by_script tells =
+      next_by_script faults script next_tick inside.next inside.cables.items
+      (subst (λ (all : List (Cable W)). All (TellsNext script next_tick inside.next) all) are_cables tells)
 
   pub ends : inside.hall.setup.end ≤ tick → HasEnded old
   ends h = record {
@@ -360,6 +394,8 @@ module _ {W : Type 0} (faults : W → ℕ) (script : W → Option Script) (next_
         due = is_due old inside.samples tick (kept.samples running) due;
         least = idle_to tick (omega arith);
         running = (running, runs);
+        passes = passes;
+        skipped = times_skipped old.setup old.next tick old.journal new.journal none_left passes.leads;
       }
 
       pub world_went : IsWorld new

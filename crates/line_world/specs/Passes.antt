@@ -7,7 +7,7 @@ use Rattle.pingpong.specs.declared.journal.What.{What}
 use Rattle.pingpong.specs.declared.journal.What.TheVariants.{SendFailed, TakeFailed}
 use Rattle.waveform_reader.specs.Scenario.{Setup}
 use Rattle.line_world.specs.Hall.{Hall}
-use Rattle.line_world.specs.Occasions.{Moment}
+use Rattle.line_world.specs.Occasions.{Moment, Way}
 use Rattle.line_world.specs.Run.{Directed, after}
 use Rattle.line_world.specs.World.{Leads}
 use Rattle.line_world.specs.declared.cable.Cable.{Cable}
@@ -57,6 +57,11 @@ counted w = record { from = w.from; to = w.to; faults = w.faults }
 
 abbrev pub counted_with : List Entry → Told → Counted
 counted_with entries w = record { from = w.from; to = w.to; faults = raised (failures w.from w.to entries) w.faults }
+
+-- a line with the wire that it was handed, and the count of that wire after some entries
+abbrev pub counted_after : {W : Type 0} → (W → ℕ) → List Entry → Way × W → Counted
+counted_after faults entries line =
+    record { from = line.0.from; to = line.0.to; faults = raised (failures line.0.from line.0.to entries) (faults line.1) }
 
 -- a line's stations and its script, where the wire tells it
 pub record Known : Type 0 where

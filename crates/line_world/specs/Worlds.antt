@@ -1,9 +1,10 @@
 -- A world: where it has come to, and what it stands for.
-use Rattle.std.specs.Prelude.{◌≡◌, ◌⊎◌, ℕ, suc, ◌%◌, ◌<◌, ◌≤◌, Bool, true, false, nat_eq, List, [], ◌++◌, All, Contains, map, slice_index}
+use Rattle.std.specs.Prelude.{◌≡◌, ◌⊎◌, ℕ, suc, ◌%◌, ◌<◌, ◌≤◌, Bool, true, false, nat_eq, List, [], ◌++◌, All, Contains, map, Option, slice_index}
+use Rattle.ld_base.specs.Script.{Script, next_tick}
 use Rattle.pingpong.specs.declared.journal.Entry.{Entry}
 use Rattle.waveform_reader.specs.Scenario.{Setup}
 use Rattle.line_world.specs.Occasions.{Moment, moments, moments_at}
-use Rattle.line_world.specs.Passes.{Scene, Tell, Told, counted, counted_with}
+use Rattle.line_world.specs.Passes.{Passes, Scene, Tell, Told, counted, counted_with}
 use Rattle.line_world.specs.Run.{Directed, run_through}
 use Rattle.line_world.specs.Tick.{CutShort, IsSample}
 use Rattle.line_world.specs.World.{Leads}
@@ -20,6 +21,16 @@ pub record World : Type 0 where
 
 abbrev pub scene : World → Scene
 scene w = record { journal = w.journal; wires = w.wires }
+
+-- a world is over some wires: what is told are their faults and scripts, and what is due are their next ticks
+pub record IsOver {W : Type 0} (faults : W → ℕ) (script : W → Option Script) (next_tick : W → ℕ → ℕ) (wires : List W) (w : World) : Type 0 where
+  pub faults_told : map (λ told. told.faults) w.wires ≡ map faults wires
+  pub scripts_told : map (λ told. told.script) w.wires ≡ map script wires
+  pub due_next : w.due ≡ map (λ wire. next_tick wire w.next) wires
+
+-- where the wires tell their scripts, what is due are the next ticks of these
+abbrev pub IsDueByScript : World → Type 0
+IsDueByScript w = (lines : List Directed) → Tell w.wires lines → w.due ≡ map (λ line. next_tick line.script w.next) lines
 
 -- the moments that a world has carried out: those of all ticks below the next one, and a part of that tick's, which is empty unless
 -- memory was refused at a tick before the end
@@ -61,7 +72,8 @@ IsDue w tick =
 abbrev pub AreIdle : World → ℕ → Type 0
 AreIdle w tick = (t : ℕ) → w.next ≤ t → t < tick → IsIdle w t
 
--- a step that carried out a tick: the least that is due
+-- a step that carried out a tick: the least that is due. The moments of that tick alone went by, and no tick that was passed over has an
+-- entry
 pub record Went (old new : World) (tick : ℕ) : Type 0 where
   pub setup : new.setup ≡ old.setup
   pub next : new.next ≡ suc tick
@@ -70,6 +82,8 @@ pub record Went (old new : World) (tick : ℕ) : Type 0 where
   pub due : IsDue old tick
   pub least : AreIdle old tick
   pub running : (old.halted ≡ false) × (new.halted ≡ false)
+  pub passes : Passes old.setup (moments_at old.setup.settings tick) (scene old) (scene new)
+  pub skipped : All (λ entry. old.next ≤ entry.time → entry.time ≡ tick) new.journal
 
 -- a world that has ended: no tick that is left is due, and none of them adds to the journal
 pub record HasEnded (w : World) : Type 0 where

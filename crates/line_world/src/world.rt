@@ -1,6 +1,6 @@
 //! Terminals over wires in true time.
 
-ghost use Rattle.std.specs.Prelude.{◌≡◌, ℕ, ◌-◌, ◌*◌, ◌%◌, ◌<◌, ◌≤◌, [], All, Err, IfOk, Ok, OnErr, false, length, map, slice_index, suc, true};
+ghost use Rattle.std.specs.Prelude.{◌≡◌, ℕ, ◌-◌, ◌*◌, ◌%◌, ◌<◌, ◌≤◌, List, [], All, Err, IfOk, Ok, OnErr, OnOk, false, length, map, slice_index, suc, true};
 ghost use Rattle.line_world.specs.Crossings.{Forged};
 ghost use Rattle.line_world.specs.Journals.{IsJournalOf};
 ghost use Rattle.line_world.specs.Occasions.{ways};
@@ -8,7 +8,7 @@ ghost use Rattle.line_world.specs.Passes.{Tell};
 ghost use Rattle.line_world.specs.Report.{Lines};
 ghost use Rattle.line_world.specs.Run.{Run, lines_of};
 ghost use Rattle.line_world.specs.Tick.{AreLines, TellsNext};
-ghost use Rattle.line_world.specs.Worlds.{FollowsScript, Grows, Halted, HasEnded, IsLeast, IsNextDue, IsWorld, Went};
+ghost use Rattle.line_world.specs.Worlds.{FollowsScript, Grows, Halted, HasEnded, IsDueByScript, IsLeast, IsNextDue, IsOver, IsWorld, Went};
 ghost use Rattle.line_world.specs.StationLog.{StationLog};
 ghost use Rattle.line_world.specs.Totals.{TotalOf};
 ghost use Rattle.relay_core.specs.StandsFor.{StandsFor};
@@ -71,6 +71,7 @@ impl<W: Wire> World<W> {
         ensures start { IfOk result (λ w. (w.next ≡ 0) × (w.journal ≡ []) × (w.halted ≡ false)) }
         ensures wires { IfOk result (λ w. (map (λ wire. wire.faults) w.wires ≡ map W.faults wires.items) × (map (λ wire. wire.script) w.wires ≡ map W.script wires.items)) }
         ensures ways { IfOk result (λ w. map (λ wire. record { from = wire.from; to = wire.to }) w.wires ≡ ways scenario.settings) }
+        ensures over { IfOk result (IsOver W.faults W.script W.next_tick wires.items) }
         ensures world { IfOk result IsWorld }
         ensures follows { IfOk result (λ w. Tell w.wires (lines_of scenario.settings scenario.rules) → FollowsScript w) }
     {
@@ -96,10 +97,13 @@ impl<W: Wire> World<W> {
     pub fn step(&mut self) -> Result<Stepped, NoMemory>
         ensures went { (tick : ℕ) → result ≡ Ok (Stepped.Went tick) → Went self.old self.new tick }
         ensures ended { result ≡ Ok Stepped.Ended → (self.new ≡ self.old) × HasEnded self.old }
+        ensures none_left { result ≡ Ok Stepped.Ended → All (λ entry. entry.time < self.old.next) self.old.journal }
         ensures again { HasEnded self.old → result ≡ Ok Stepped.Ended }
         ensures halted { OnErr result (Halted self.old self.new) }
         ensures stays_halted { self.old.halted ≡ true → (result ≡ Err record {}) × (self.new ≡ self.old) }
         ensures grows { Grows self.old self.new }
+        ensures over { (wires : List W) × IsOver W.faults W.script W.next_tick wires self.new }
+        ensures due { OnOk result (IsDueByScript self.old) }
         ensures world { IsWorld self.new }
         ensures follows { FollowsScript self.old → FollowsScript self.new }
         ensures run { FollowsScript self.old → result ≡ Ok Stepped.Ended → self.old.journal ≡ Run self.old.setup }

@@ -4,7 +4,7 @@ use Rattle.waveform_reader.specs.Scenario.{Setup}
 use Rattle.line_world.specs.Journals.{IsJournalOf}
 use Rattle.line_world.specs.Run.{Run}
 use Rattle.bench_cmd.specs.TrueRuns.{KeepsCalm}
-use Rattle.bench_cmd.proofs.Reporting.{tell_lines}
+use Rattle.bench_cmd.proofs.Reporting.{counted_since, tell_lines}
 use Rattle.bench_cmd.proofs.TrueRuns.{run-calm}
 use Rattle.bench_cmd.proofs.reports.report.Goals as goal
 
@@ -29,3 +29,14 @@ returns-clause-calm g c = λ scripts calm.
     (λ these me peer first pair allows. c.an_exchange_is_in_force_from_a_tick_on.ensures.moments s these me peer kept calm first pair allows)
     (λ me peer pair allows. c.no_alarm_unaligned_turns_on_from_a_tick_on.ensures.run s me peer kept calm pair allows) in
     subst (λ (journal : List Entry). KeepsCalm s journal) (sym (returns-clause-run g c scripts)) of_run
+
+pub returns-clause-follows : goal.returns-clause-follows
+returns-clause-follows g c scripts =
+    let s = c.args.scenario in
+    let made = c.in_ok-world.ensures in
+    c.in_ok-run_to_end.ensures.follows (made.follows (tell_lines s.settings s.rules c.in_ok-world.world.wires made.ways (made.wires.1 ∙ scripts)))
+
+pub returns-clause-wires : goal.returns-clause-wires
+returns-clause-wires g c =
+    let made = c.in_ok-world.ensures in
+    counted_since g.W.Wire.faults c.in_ok-world.world _ _ c.args.wires.items made.start.1 made.ways made.wires.0 c.in_ok-run_to_end.ensures.grows

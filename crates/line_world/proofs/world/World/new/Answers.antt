@@ -8,8 +8,8 @@ use Rattle.line_world.specs.Occasions.{ways}
 use Rattle.line_world.specs.Passes.{Tell, Told, told}
 use Rattle.line_world.specs.Run.{lines_of}
 use Rattle.line_world.specs.Tick.{AreLines, IsNextSample}
-use Rattle.line_world.specs.Worlds.{World}
-use Rattle.line_world.proofs.Stepping.{begins, begins_by_script}
+use Rattle.line_world.specs.Worlds.{IsOver, World}
+use Rattle.line_world.proofs.Stepping.{begins, begins_by_script, over_its_wires}
 use Rattle.line_world.proofs.world.World.new.Goals as goal
 
 pub invariant_of-result : goal.invariant_of-result
@@ -48,3 +48,11 @@ returns-clause-follows g c =
     (record { hall = c.in_ok-hall.hall; cables = c.in_ok-cables.cables; samples = c.first_samples-samples.result; next = 0; halted = false }) in
     λ tell. begins_by_script w refl c.in_ok-hall.ensures.journal
     (subst (λ (s : Setup). Tell w.wires (lines_of s.settings s.rules)) (sym c.in_ok-hall.ensures.setup) tell)
+
+pub returns-clause-over : goal.returns-clause-over
+returns-clause-over g c =
+    let w : World = world_of g.W.Wire.faults g.W.Wire.script g.W.Wire.next_tick
+    (record { hall = c.in_ok-hall.hall; cables = c.in_ok-cables.cables; samples = c.first_samples-samples.result; next = 0; halted = false }) in
+    subst (λ wires. IsOver g.W.Wire.faults g.W.Wire.script g.W.Wire.next_tick wires w) c.in_ok-cables.ensures.wires
+    (over_its_wires g.W.Wire.faults g.W.Wire.script g.W.Wire.next_tick
+    (record { hall = c.in_ok-hall.hall; cables = c.in_ok-cables.cables; samples = c.first_samples-samples.result; next = 0; halted = false }))

@@ -1,11 +1,12 @@
+use Rattle.std.specs.Prelude.{All}
 use Rattle.std.specs.Vec.{with_items}
-use Rattle.std.proofs.Common.{◌≡◌, ℕ, ◌+◌, ◌≤◌, suc, slice_index, true, arith, sym, ap, ◌∙◌, refl, subst}
+use Rattle.std.proofs.Common.{◌≡◌, ℕ, ◌+◌, ◌<◌, ◌≤◌, map, suc, slice_index, true, arith, sym, ap, ◌∙◌, refl, subst}
 use Rattle.waveform_reader.specs.Scenario.{Setup}
 use Rattle.line_world.specs.Inside.{world_of}
 use Rattle.line_world.specs.Run.{Run}
 use Rattle.line_world.specs.Tick.{IsNextSample}
-use Rattle.line_world.specs.Worlds.{FollowsScript, Grows, Halted, HasEnded, Went, World}
-use Rattle.line_world.proofs.Stepping.{are_lines, cut_off, ends, goes_on, keeps, moved, on_ok, passed, runs_to_the_end, samples_at, script_stopped, script_went, tick_halted, tick_went, world_stopped, world_went}
+use Rattle.line_world.specs.Worlds.{FollowsScript, Grows, Halted, HasEnded, IsDueByScript, IsOver, Went, World}
+use Rattle.line_world.proofs.Stepping.{are_lines, cut_off, due_by_script, ends, goes_on, keeps, moved, none_left, on_ok, over_its_wires, passed, runs_to_the_end, samples_at, script_stopped, script_went, tick_halted, tick_went, world_stopped, world_went}
 use Rattle.line_world.proofs.world.World.step.Goals as goal
 
 pub returns-then-tick-end-clause-ended : goal.returns-then-tick-end-clause-ended
@@ -220,3 +221,60 @@ returns-clause-again g c =
     λ ended. goes_on g.W.Wire.faults g.W.Wire.script g.W.Wire.next_tick c.self.inside c.self.invariant c.if-self.false c.settings.result.now c.scenario.result.now
     c.next_due-tick.result c.deref.result.now c.settings.ensures.settings c.scenario.ensures.setup c.deref.ensures.value c.next_due-tick.ensures.due
     (omega arith) (subst HasEnded (sym c.self.view_is) ended)
+
+pub returns-then-tick-end-clause-none_left : goal.returns-then-tick-end-clause-none_left
+returns-then-tick-end-clause-none_left g c =
+    λ _. subst (λ (w : World). All (λ entry. entry.time < w.next) w.journal) c.self.view_is
+    (none_left g.W.Wire.faults g.W.Wire.script g.W.Wire.next_tick c.self.inside c.self.invariant c.if-self.false c.settings.result.now c.scenario.result.now
+    c.next_due-tick.result c.deref.result.now c.settings.ensures.settings c.scenario.ensures.setup c.deref.ensures.value c.next_due-tick.ensures.due)
+
+pub returns-then-tick-end-clause-due : goal.returns-then-tick-end-clause-due
+returns-then-tick-end-clause-due g c =
+    subst IsDueByScript c.self.view_is
+    (due_by_script g.W.Wire.faults g.W.Wire.script g.W.Wire.next_tick c.self.inside c.self.invariant c.if-self.false c.settings.result.now c.scenario.result.now
+    c.next_due-tick.result c.deref.result.now c.settings.ensures.settings c.scenario.ensures.setup c.deref.ensures.value c.next_due-tick.ensures.due c.next_due-tick.ensures.script)
+
+pub returns-clause-due : goal.returns-clause-due
+returns-clause-due g c =
+    subst IsDueByScript c.self.view_is
+    (due_by_script g.W.Wire.faults g.W.Wire.script g.W.Wire.next_tick c.self.inside c.self.invariant c.if-self.false c.settings.result.now c.scenario.result.now
+    c.next_due-tick.result c.deref.result.now c.settings.ensures.settings c.scenario.ensures.setup c.deref.ensures.value c.next_due-tick.ensures.due c.next_due-tick.ensures.script)
+
+pub returns-then-self-clause-over : goal.returns-then-self-clause-over
+returns-then-self-clause-over g c =
+    (map (λ cable. cable.wire) c.self.inside.cables.items, subst (IsOver g.W.Wire.faults g.W.Wire.script g.W.Wire.next_tick (map (λ cable. cable.wire) c.self.inside.cables.items)) c.self.view_is (over_its_wires g.W.Wire.faults g.W.Wire.script g.W.Wire.next_tick c.self.inside))
+
+pub returns-then-tick-end-clause-over : goal.returns-then-tick-end-clause-over
+returns-then-tick-end-clause-over g c =
+    (map (λ cable. cable.wire) c.self.inside.cables.items, subst (IsOver g.W.Wire.faults g.W.Wire.script g.W.Wire.next_tick (map (λ cable. cable.wire) c.self.inside.cables.items)) c.self.view_is (over_its_wires g.W.Wire.faults g.W.Wire.script g.W.Wire.next_tick c.self.inside))
+
+pub returns-then-is_err-clause-over : goal.returns-then-is_err-clause-over
+returns-then-is_err-clause-over g c = (
+  _,
+  over_its_wires g.W.Wire.faults g.W.Wire.script g.W.Wire.next_tick
+      (record { hall = c.make_room.new.self; cables = c.self.inside.cables; samples = c.self.inside.samples; next = c.self.inside.next; halted = true }),
+)
+
+pub returns-then-is_err-2-clause-over : goal.returns-then-is_err-2-clause-over
+returns-then-is_err-2-clause-over g c = (
+  _,
+  over_its_wires g.W.Wire.faults g.W.Wire.script g.W.Wire.next_tick (record {
+    hall = c.carry_out.new.hall;
+    cables = with_items c.self.inside.cables c.carry_out.new.cables;
+    samples = c.carry_out.new.samples;
+    next = c.next_due-tick.result;
+    halted = true;
+  }),
+)
+
+pub returns-clause-over : goal.returns-clause-over
+returns-clause-over g c = (
+  _,
+  over_its_wires g.W.Wire.faults g.W.Wire.script g.W.Wire.next_tick (record {
+    hall = c.carry_out.new.hall;
+    cables = with_items c.self.inside.cables c.carry_out.new.cables;
+    samples = c.carry_out.new.samples;
+    next = c.next_due-tick.result + 1;
+    halted = c.self.inside.halted;
+  }),
+)
