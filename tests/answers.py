@@ -11,7 +11,7 @@ import tempfile
 ROOT = os.path.dirname(os.path.dirname(os.path.abspath(__file__)))
 LINEDIFF = os.path.join(ROOT, "linediff")
 # The one line that the program itself says of words that are no command.
-USAGE = b"usage: linediff judge COUNT | frames N | bench\n"
+USAGE = b"usage: linediff judge COUNT | frames N | bench | gen NUMBER TICKS\n"
 LARGEST = 16_777_216
 EXAMPLES = os.path.join(ROOT, "examples")
 sys.path.insert(0, EXAMPLES)
@@ -46,7 +46,7 @@ def words_that_are_no_command(program, good):
     yield "no words, to the program itself", run([], good, program=program), (b"", USAGE, 2)
     faulty = [["judge"], ["judge", "04"], ["judge", ""], ["judge", "0"], ["judge", "33"], ["judge", "+2"], ["judge", " 2"]]
     faulty += [["judge", "2", "2"], ["judge", "2", ""], ["", "judge", "2"], ["judge", "", "2"], ["JUDGE", "2"], ["Judge", "2"]]
-    faulty += [["judge", "--help"], ["help"], [""], ["frame", "5"], ["frames"], ["frames", "0"], ["frames", "13"], ["frames", "05"], ["frames", "5", "5"], ["bench", "5"], ["bench", ""], ["Bench"], ["gen", "1", "1000"], [b"judge", b"\xff"]]
+    faulty += [["judge", "--help"], ["help"], [""], ["frame", "5"], ["frames"], ["frames", "0"], ["frames", "13"], ["frames", "05"], ["frames", "5", "5"], ["bench", "5"], ["bench", ""], ["Bench"], ["gen"], ["gen", "1"], ["gen", "1", "999"], ["gen", "01", "1000"], [b"judge", b"\xff"]]
     for words in faulty:
         yield "the words %r" % words, run(words, good), (b"", USAGE, 2)
 

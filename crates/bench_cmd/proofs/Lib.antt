@@ -1,8 +1,10 @@
 pub mod Completeness
 pub mod Cuts
+pub mod Generating
 pub mod Judging
 pub mod Reporting
 pub mod RowNumbers
 pub mod Showing
 pub mod TransferFacts
 pub mod TrueRuns
+pub mod WordNumbers

@@ -1,14 +1,20 @@
 -- The command line.
-use Rattle.std.specs.Prelude.{ℕ, ◌≤◌, ◌&&◌, nat_le, if◌then◌else◌, List, [], ◌∷◌, Option, Some, None, bytes_eq, codes}
+use Rattle.std.specs.Prelude.{ℕ, ◌≤◌, ◌<◌, ◌^◌, Bool, true, false, ◌&&◌, nat_le, if◌then◌else◌, List, [], ◌∷◌, Option, Some, None, bytes_eq, codes}
 use Rattle.row_reader.specs.Numbers.{word_number}
 use Rattle.bench_cmd.specs.declared.command.Command.{Command}
-use Rattle.bench_cmd.specs.declared.command.Command.TheVariants.{Bench, Frames, Judge}
+use Rattle.bench_cmd.specs.declared.command.Command.TheVariants.{Bench, Frames, Generate, Judge}
 
--- the count of a command is one that `judge` takes
+-- the numbers of a command are those that it takes
 abbrev pub IsFitting : Command → Type 0
 IsFitting (Judge count) = (1 ≤ count) × (count ≤ 32)
 IsFitting (Frames channels) = (1 ≤ channels) × (channels ≤ 12)
 IsFitting Bench = Unit {0}
+IsFitting (Generate number ticks) = (number < 10 ^ 18) × (1000 ≤ ticks) × (ticks ≤ 20000000)
+
+-- whether a command reads an input: the generator has none
+abbrev pub reads_input : Command → Bool
+reads_input (Generate number ticks) = false
+reads_input other = true
 
 -- `judge` with a count of sets from 1 to 32
 abbrev pub judge_of : Option ℕ → Option Command
@@ -31,9 +37,20 @@ of_count name word =
     else if bytes_eq name (codes "frames") then frames_of (word_number word)
     else None
 
+-- `gen` with a number and a count of ticks from 1000 to 20000000
+abbrev pub gen_of : Option ℕ → Option ℕ → Option Command
+gen_of None ticks = None
+gen_of (Some number) None = None
+gen_of (Some number) (Some ticks) = if nat_le 1000 ticks && nat_le ticks 20000000 then Some (Generate number ticks) else None
+
+-- a name with two words
+abbrev pub of_two : List ℕ → List ℕ → List ℕ → Option Command
+of_two name first second = if bytes_eq name (codes "gen") then gen_of (word_number first) (word_number second) else None
+
 -- the command of some words, where they have the shape of one
 abbrev pub command_of : List (List ℕ) → Option Command
 command_of [] = None
 command_of (name ∷ []) = of_word name
 command_of (name ∷ word ∷ []) = of_count name word
-command_of (name ∷ word ∷ other ∷ rest) = None
+command_of (name ∷ first ∷ second ∷ []) = of_two name first second
+command_of (name ∷ first ∷ second ∷ other ∷ rest) = None

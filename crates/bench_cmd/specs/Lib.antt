@@ -5,6 +5,7 @@ pub mod Faults
 pub mod FrameLines
 pub mod FramesText
 pub mod Gains
+pub mod GeneratorText
 pub mod Judge
 pub mod Outcomes
 pub mod ReportLines

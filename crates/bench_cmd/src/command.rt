@@ -1,7 +1,7 @@
 //! The shapes of the command line.
 
-ghost use Rattle.std.specs.Prelude.{◌≡◌, Some, IfSome, map};
-ghost use Rattle.bench_cmd.specs.Commands.{IsFitting, command_of, frames_of, judge_of, of_count, of_word};
+ghost use Rattle.std.specs.Prelude.{◌≡◌, ◌<◌, ◌^◌, Some, IfSome, map};
+ghost use Rattle.bench_cmd.specs.Commands.{IsFitting, command_of, frames_of, gen_of, judge_of, of_count, of_two, of_word};
 
 use row_reader::word_number;
 
@@ -14,6 +14,8 @@ pub enum Command {
     Frames { channels: u8 },
     /// Run the terminals of a line over a scenario.
     Bench,
+    /// Write the scenario of a number below 10^18 that lasts so many ticks, 1000 to 20000000, and what its run sums up to.
+    Generate { number: u64, ticks: u64 },
 }
 
 impl Command {
@@ -25,6 +27,7 @@ impl Command {
         match words {
             [name] => of_word(name),
             [name, word] => of_count(name, word),
+            [name, first, second] => of_two(name, first, second),
             _ => None,
         }
     }
@@ -55,6 +58,18 @@ fn of_count(name: &[u8], word: &[u8]) -> Option<Command>
     }
 }
 
+// The command of a name and two words.
+fn of_two(name: &[u8], first: &[u8], second: &[u8]) -> Option<Command>
+    ensures shape { result ≡ of_two name.now first.now second.now }
+    ensures fits { IfSome result IsFitting }
+{
+    if name == b"gen".as_slice() {
+        gen_of(word_number(first)?, word_number(second)?)
+    } else {
+        None
+    }
+}
+
 fn judge_of(count: u64) -> Option<Command>
     ensures { result ≡ judge_of (Some count) }
 {
@@ -73,4 +88,15 @@ fn frames_of(channels: u64) -> Option<Command>
     Some(Command::Frames {
         channels: channels as u8,
     })
+}
+
+fn gen_of(number: u64, ticks: u64) -> Option<Command>
+    requires { number < 10 ^ 18 }
+    ensures shape { result ≡ gen_of (Some number) (Some ticks) }
+    ensures fits { IfSome result IsFitting }
+{
+    if ticks < 1000 || 20_000_000 < ticks {
+        return None;
+    }
+    Some(Command::Generate { number, ticks })
 }

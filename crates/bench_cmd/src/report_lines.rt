@@ -1,10 +1,11 @@
 //! The lines of a report.
 
-ghost use Rattle.std.specs.Prelude.{◌≡◌, ◌≤◌, ◌+◌, ◌++◌, length, decimal, OnOk};
+ghost use Rattle.std.specs.Prelude.{◌≡◌, ◌≤◌, ◌+◌, ◌^◌, ◌++◌, length, decimal, OnOk};
 ghost use Rattle.std.specs.List.{flat_map};
 ghost use Rattle.std.specs.Fmt.{signed_decimal};
 ghost use Rattle.bench_cmd.specs.Judge.{letter};
 ghost use Rattle.bench_cmd.specs.ReportLines.{alarm_name, bound_word, field_and, last_lines, line_text, total_text, turn_word};
+ghost use Rattle.bench_cmd.specs.GeneratorText.{sums_line};
 
 use crate::judge::letter;
 use crate::text_line::TextLine;
@@ -91,6 +92,38 @@ pub(crate) fn write_last(text: &mut Vec<u8>, forged: u64, end: u64) -> Result<()
     put_field(&mut line, forged);
     line.put(b"forged");
     line.append_to(text)
+}
+
+/// Appends the line of what up to three stations counted together, and of how many accepted messages are forged.
+pub(crate) fn write_sums(text: &mut Vec<u8>, totals: &[Total], forged: u64) -> Result<(), NoMemory>
+    requires { length totals.now ≤ 3 }
+    ensures { OnOk result (text.new.items ≡ text.old.items ++ sums_line totals.now forged) }
+{
+    let mut accepted = 0u128;
+    let mut sets = 0u128;
+    let mut trips = 0u128;
+    for total in totals {
+        accepted = plus(accepted, total.accepted);
+        sets = plus(sets, total.sets);
+        trips = plus(trips, total.trips);
+    }
+    let mut line = TextLine::new();
+    line.put(b"\n");
+    put_field(&mut line, forged);
+    put_wide_field(&mut line, trips);
+    put_wide_field(&mut line, sets);
+    put_wide_field(&mut line, accepted);
+    line.put(b"#");
+    line.append_to(text)
+}
+
+// A sum of few counts with one more.
+fn plus(sum: u128, count: u64) -> u128
+    requires { sum ≤ 2 ^ 66 }
+    ensures sum { result ≡ sum + count }
+    ensures few { result ≤ sum + 2 ^ 64 }
+{
+    sum + u128::from(count)
 }
 
 // Puts the kind of a line, its time and its station in front.

@@ -72,8 +72,8 @@ pub fn report<W: Wire>(
     Ok((world, text))
 }
 
-// Steps a world until it ends.
-fn run_to_end<W: Wire>(world: &mut World<W>) -> Result<(), NoMemory>
+/// Steps a world until it ends.
+pub(crate) fn run_to_end<W: Wire>(world: &mut World<W>) -> Result<(), NoMemory>
     ensures setup { world.new.setup ≡ world.old.setup }
     ensures ended { OnOk result (HasEnded world.new) }
     ensures world { IsWorld world.new }
@@ -86,8 +86,12 @@ fn run_to_end<W: Wire>(world: &mut World<W>) -> Result<(), NoMemory>
     Ok(())
 }
 
-// What each station of so many counted, in order.
-fn totals_of<W: Wire>(alloc: Global, world: &World<W>, stations: u8) -> Result<Vec<Total>, NoMemory>
+/// What each station of so many counted, in order.
+pub(crate) fn totals_of<W: Wire>(
+    alloc: Global,
+    world: &World<W>,
+    stations: u8,
+) -> Result<Vec<Total>, NoMemory>
     requires { stations ≡ world.now.setup.settings.stations }
     ensures { IfOk result (λ totals. totals.items ≡ totals_of world.now.setup.settings world.now.journal (stations_of world.now.setup.settings)) }
 {

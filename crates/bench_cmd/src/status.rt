@@ -47,7 +47,9 @@ impl Status {
     {
         match self {
             Status::Done => None,
-            Status::Usage => Some("usage: linediff judge COUNT | frames N | bench"),
+            Status::Usage => Some(
+                "usage: linediff judge COUNT | frames N | bench | gen NUMBER TICKS",
+            ),
             Status::BadInput { .. } => Some("bad input"),
             Status::ReadFault => Some("read fault"),
             Status::WriteFault => Some("write fault"),

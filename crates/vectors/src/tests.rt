@@ -9,7 +9,6 @@ use std::test::Fail;
 use waveform_reader::{Scenario, read};
 
 mod ends;
-mod frames;
 mod judging;
 mod reports;
 mod script_wires;

@@ -7,7 +7,7 @@ use Rattle.bench_cmd.proofs.TrueRuns.{reports-true-time, run-calm}
 use Rattle.bench_cmd.proofs.runs.run.Goals as goal
 
 pub returns-in-Ok-outcome_of-clause-complete : goal.returns-in-Ok-outcome_of-clause-complete
-returns-in-Ok-outcome_of-clause-complete g c = λ command input of tells few calm quiet.
+returns-in-Ok-outcome_of-clause-complete g c = λ command input of reads tells few calm quiet.
     let same : c.in-Some.command ≡ command = cc (c.in-Some.ensures.shape) in
     let before = g.K.Sink.end c.args.sink.now in
     let after = g.K.Sink.end c.finish.new.sink in

@@ -1,0 +1,7 @@
+pub mod Draws
+pub mod Fields
+pub mod Passing
+pub mod Scenarios
+pub mod Sections
+pub mod Settings
+pub mod Texts
