@@ -42,13 +42,15 @@ def run(words, given=b"", stdin=None, stdout=None, close=None, memory=None, prog
 
 
 def words_that_are_no_command(program, good):
-    """Cases for the launcher, which hands all words but its own to the program."""
+    """Cases for the launcher, which refuses by itself what the program refuses, and never anything else."""
     yield "no words, to the program itself", run([], good, program=program), (b"", USAGE, 2)
     faulty = [["judge"], ["judge", "04"], ["judge", ""], ["judge", "0"], ["judge", "33"], ["judge", "+2"], ["judge", " 2"]]
-    faulty += [["judge", "2", "2"], ["judge", "2", ""], ["", "judge", "2"], ["judge", "", "2"], ["JUDGE", "2"], ["Judge", "2"]]
-    faulty += [["judge", "--help"], ["help"], [""], ["frame", "5"], ["frames"], ["frames", "0"], ["frames", "13"], ["frames", "05"], ["frames", "5", "5"], ["bench", "5"], ["bench", ""], ["Bench"], ["gen"], ["gen", "1"], ["gen", "1", "999"], ["gen", "01", "1000"], [b"judge", b"\xff"]]
+    faulty += [["judge", "2", "2"], ["judge", "2", ""], ["", "judge", "2"], ["judge", "", "2"], ["JUDGE", "2"], ["Judge", "2"], ["judge", "2\n"]]
+    faulty += [["help", "judg"], [""], ["frame", "5"], ["frames"], ["frames", "0"], ["frames", "13"], ["frames", "05"], ["frames", "5", "5"], ["bench", "5"], ["bench", ""], ["Bench"], ["gen"], ["gen", "1"], ["gen", "1", "999"], ["gen", "01", "1000"], [b"judge", b"\xff"], ["judge", "99999999999999999999"]]
     for words in faulty:
-        yield "the words %r" % words, run(words, good), (b"", USAGE, 2)
+        yield "the words %r, to the program itself" % words, run(words, good, program=program), (b"", USAGE, 2)
+        output, said, status = run(words, good)
+        yield "the words %r" % words, (output, said[:len(USAGE)], status), (b"", USAGE, 2)
 
 
 def rows():

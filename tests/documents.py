@@ -1,4 +1,5 @@
 """Holds the documents to what stands: the crates, the files of definitions, the commands and their statuses."""
+import glob
 import os
 import re
 import subprocess
@@ -20,9 +21,10 @@ def crates():
     return {name.split()[0]: sorted(below.split()) for name, _, below in lines if name.strip()}
 
 
-def rows(name, heading):
-    """The cells of each row of the first table under a heading of a document."""
-    table = re.search(r"(?m)(^\|.*\n)+", text_of(name).split("\n## %s\n" % heading)[1])[0]
+def rows(name, heading, begins="|"):
+    """The cells of each row of the first table under a heading of a document, or of the first that begins so."""
+    section = re.split(r"\n##+ %s\n" % re.escape(heading), text_of(name))[1]
+    table = re.search(r"(?m)^%s.*\n(^\|.*\n)+" % re.escape(begins), section)[0]
     return [[cell.strip() for cell in row.strip("|").split(" | ")] for row in table.splitlines()[2:]]
 
 
@@ -35,27 +37,43 @@ def names_in(*cells):
     return sorted(re.findall(r"`(\w+)`", " ".join(cells)))
 
 
-def lost_files(name, folder):
-    """The files of definitions that a document names and that aren't there. A name alone stands in the folder of the one before."""
-    lost, at = [], None
-    for path in re.findall(r"`([\w/]+\.antt)`", text_of(name)):
-        at = os.path.join(ROOT, folder, os.path.dirname(path)) if "/" in path else at
-        if not at or not os.path.isfile(os.path.join(at, os.path.basename(path))):
+def lost_files(text, folder=""):
+    """The sources that a text names and that aren't there. A path begins at the folder, or at the crate of the one before; a name alone stands beside it."""
+    lost, crate, beside = [], "", ""
+    for path in re.findall(r"`([\w/]+\.(?:antt|rt))`", text):
+        places = [os.path.join(ROOT, place, path) for place in ([folder, crate] if "/" in path else [beside])]
+        found = next((place for place in places if os.path.isfile(place)), None)
+        if not found:
             lost.append(path)
+            continue
+        beside = os.path.relpath(os.path.dirname(found), ROOT)
+        crate = os.path.join(*beside.split("/")[:2])
     return lost
 
 
+def documents():
+    """Every page of words, by its path."""
+    return sorted(name for part in ("*.md", "*/*.md") for name in glob.glob(part, root_dir=ROOT))
+
+
+def headings_of(path):
+    """The headings of a document, as links name them."""
+    return [re.sub(r"[^\w -]", "", heading).lower().replace(" ", "-") for heading in re.findall(r"(?m)^#+ (.*)", text_of(path))]
+
+
+def leads_nowhere(document, target):
+    page, _, anchor = target.partition("#")
+    path = os.path.normpath(os.path.join(os.path.dirname(document), page)) if page else document
+    if not os.path.exists(os.path.join(ROOT, path)):
+        return True
+    return bool(anchor) and anchor not in headings_of(path)
+
+
 def links():
-    """Each link of a document leads to a heading of another."""
-    for name in ["README.md"] + sorted("docs/" + name for name in os.listdir(os.path.join(ROOT, "docs"))):
-        lost = []
-        for target in re.findall(r"\]\(([^)]*)\)", text_of(name)):
-            page, _, anchor = target.partition("#")
-            path = os.path.normpath(os.path.join(os.path.dirname(name), page)) if page else name
-            headings = re.findall(r"(?m)^#+ (.*)", text_of(path)) if os.path.isfile(os.path.join(ROOT, path)) else []
-            if anchor and anchor not in [re.sub(r"[^\w -]", "", heading).lower().replace(" ", "-") for heading in headings]:
-                lost.append(target)
-        yield "%s links to headings that are there" % name, lost, []
+    """Each link of a document leads to a file that is there, and to one of its headings."""
+    for name in documents():
+        lost = [target for target in re.findall(r"\]\(([^):]*)\)", text_of(name)) if leads_nowhere(name, target)]
+        yield "%s links to what is there" % name, lost, []
 
 
 def cases():
@@ -66,11 +84,14 @@ def cases():
     yield from links()
     yield "the README has at most 100 lines", len(text_of("README.md").splitlines()) <= 100, True
     yield "no line of the README has more than 500 characters", [line for line in text_of("README.md").splitlines() if len(line) > 500], []
-    yield "RULES.md names the files that are there", lost_files("docs/RULES.md", ""), []
-    yield "ARCHITECTURE.md names the files that are there", lost_files("docs/ARCHITECTURE.md", "crates"), []
+    yield "RULES.md names the files that are there", lost_files(text_of("docs/RULES.md")), []
+    table = text_of("docs/ARCHITECTURE.md").split("\n## Where each definition stands\n")[1]
+    yield "ARCHITECTURE.md names the files that are there", lost_files(table, "crates"), []
+    recipes = re.findall(r"(?ms)^\| step \| file \|\n.*?\n\n", text_of("CONTRIBUTING.md"))
+    yield "CONTRIBUTING.md names the files that are there", [lost_files(recipe) for recipe in recipes], [[]] * 4
     commands = [part.split() for part in USAGE.removeprefix("usage: linediff ").split(" | ")]
     told = subprocess.run([os.path.join(ROOT, "linediff"), "--help"], stdout=subprocess.PIPE, check=True, text=True).stdout
-    helped = [words.split() for words in re.findall(r"(?m)^  \./linediff (\w.*)$", told)]
+    helped = [words.split() for words in re.findall(r"(?m)^  \./linediff (\w+(?: [A-Z]+)*)$", told)]
     yield "--help has the commands of the usage line", helped, commands
     worded = [row[0].partition("`")[2].partition("`")[0].split() for row in rows("docs/FORMATS.md", "Command words")]
     yield "FORMATS.md has the commands of the usage line", worded, commands
@@ -79,6 +100,8 @@ def cases():
     yield "FORMATS.md has the key of each setting", keys, words_of(names, "key_name")
     records = [row[0].strip("`") for row in rows("docs/FORMATS.md", "Scenario")]
     yield "FORMATS.md has each record of a scenario", records, ["#", "set"] + words_of(names, "kind_name")
+    alarms = [row[0].strip("`") for row in rows("docs/FORMATS.md", "Report", "| name |")]
+    yield "FORMATS.md has each alarm", alarms, re.findall(r'(?m)^alarm_name \w+ = codes "(\w+)"$', text_of("crates/bench_cmd/specs/ReportLines.antt"))
     reasons = re.findall(r"(?m)^reason_number reason\.(\w+) = (\d)$", text_of("crates/bench_cmd/specs/Faults.antt"))
     for heading in ("Judge", "Rules of a scenario"):
         told = {(row[1].strip("`"), row[0]) for row in rows("docs/FORMATS.md", heading)}
