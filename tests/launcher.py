@@ -39,8 +39,9 @@ class Repository:
         self.write("crates.txt", CRATES)
         self.write("HANDLES", "Handles allowed: none.\n")
         self.write(".gitignore", "out/\n")
-        self.write("tests/run", "#!/bin/sh\necho tests\n./linediff judge 2\n")
-        os.chmod(os.path.join(self.top, "tests/run"), 0o755)
+        for name, says in (("tools/install", "echo installs"), ("tests/run", "echo tests\n./linediff judge 2")):
+            self.write(name, "#!/bin/sh\n%s\n" % says)
+            os.chmod(os.path.join(self.top, name), 0o755)
         for name in ("linediff", ".ci/run", "launcher/build"):
             os.makedirs(os.path.dirname(os.path.join(self.top, name)), exist_ok=True)
             shutil.copy(os.path.join(ROOT, name), os.path.join(self.top, name))
@@ -259,7 +260,7 @@ def beside_the_gate(it):
     gate = it.start(program=it.top + "/.ci/run", cwd=it.top, BEFORE='[ "$1" != ci ] || sleep 0.5')
     it.wait_for_call()
     told = it.call("judge", "2")
-    yield "the gate ends with the tests", it.end(gate), ("rt: chose --jobs 4 for top\n5 passed, 0 failed\ntests\n" + answer()[0], "", 3)
+    yield "the gate installs what they need, and ends with the tests", it.end(gate), ("rt: chose --jobs 4 for top\n5 passed, 0 failed\ninstalls\ntests\n" + answer()[0], "", 3)
     yield "a call beside it waits and runs what it proved", (told[::2], it.calls()), (answer()[::2], ["top ci"])
     yield "it says that it waits", "waiting for that to end" in told[1], True
 

@@ -1,0 +1,1 @@
+"""What the tools share: rows, settings, records, scenarios, reports and verdicts. It proves nothing and decides nothing."""
