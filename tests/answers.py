@@ -41,6 +41,11 @@ def run(words, given=b"", stdin=None, stdout=None, close=None, memory=None, prog
         return sink.read(), done.stderr, done.returncode
 
 
+def the_program():
+    """Where the program itself stands, which the launcher runs."""
+    return subprocess.run([LINEDIFF, "--program"], stdout=subprocess.PIPE, check=True, text=True).stdout.strip()
+
+
 def words_that_are_no_command(program, good):
     """Cases for the launcher, which refuses by itself what the program refuses, and never anything else."""
     yield "no words, to the program itself", run([], good, program=program), (b"", USAGE, 2)
@@ -144,7 +149,7 @@ def line_ends():
 
 
 def cases():
-    program = subprocess.run([LINEDIFF, "--program"], stdout=subprocess.PIPE, check=True, text=True).stdout.strip()
+    program = the_program()
     good, verdicts = bytes_of("crates", "linediff", "stdin"), bytes_of("crates", "linediff", "stdout")
     yield from words_that_are_no_command(program, good)
     yield from rows()

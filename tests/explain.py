@@ -5,7 +5,7 @@ import subprocess
 import sys
 
 import documents
-from answers import LINEDIFF, ROOT, run
+from answers import ROOT, run, the_program
 
 sys.path.insert(0, os.path.join(ROOT, "tools"))
 from linediff_tools import judge_rules, scenario_rules
@@ -156,7 +156,7 @@ class Program:
     """The program's answers."""
 
     def __init__(self):
-        self.path = subprocess.run([LINEDIFF, "--program"], stdout=subprocess.PIPE, check=True, text=True).stdout.strip()
+        self.path = the_program()
 
     def answer(self, words, data):
         """The row and the rule for which an input is refused, None where it is accepted, and else what came."""

@@ -12,9 +12,8 @@ import tempfile
 import time
 import zlib
 
-from answers import EXAMPLES, LINEDIFF, ROOT
+from answers import EXAMPLES, LINEDIFF, ROOT, the_program
 import tool
-
 
 
 def lacks():
@@ -176,11 +175,6 @@ def call(*words, program=None):
     return done.stdout.splitlines(), done.stderr, done.returncode
 
 
-def the_program():
-    """The program itself, which a program that stands in its place calls for each scenario."""
-    return subprocess.run([LINEDIFF, "--program"], capture_output=True, text=True).stdout.strip()
-
-
 def rows_of(folder):
     with open(os.path.join(folder, "rows.csv")) as file:
         return file.read().splitlines()
@@ -275,7 +269,7 @@ esac
 
 
 def generated(folder):
-    """Scenarios of gen: of a program that stands in for one that has it, and of the program as it is."""
+    """Scenarios of gen: of a program that stands in for one that has it, of the program itself, and of one that has no gen."""
     put(folder, "scenario", LINE + LOAD)
     put(folder, "report", TOTALS % 3)
     program = put(folder, "program", WITH_GEN % (folder, folder), 0o755)
@@ -288,15 +282,15 @@ def generated(folder):
     for name, first, number, wrong in ("sums", 6, 7, "gen tells the sums 0,90,7,4, and bench 0,90,7,3"), ("status", 8, 8, "gen 8 20000 ended with status 6: no memory"):
         output, said, status = of_gen(name, first, program)
         yield "gen with other %s" % name, ("sweep: number %d: %s\n" % (number, wrong) in said, status), (True, 1)
-    usage = subprocess.run([LINEDIFF, "words", "of", "no", "command"], capture_output=True, text=True).stderr
-    output, said, status = of_gen("program", 5)
-    if "gen NUMBER TICKS" in usage:
-        yield "the program's own gen", (output[0], said, status), ("2 of 2 scenarios, numbers 5 to 6, from gen, 20000 ticks each", "", 0)
-        made = subprocess.run([LINEDIFF, "gen", "6", "20000"], capture_output=True, text=True).stdout.splitlines()
-        yield "each again by its number", call("scenario", os.path.join(folder, "program"), "6")[0], made
-    else:
-        wanted = "sweep: this program has no command gen, so its scenarios can't be had by number; it says: %s" % usage
-        yield "a program without gen is refused", (output, said, status), ([], wanted, 3)
+    output, said, status = of_gen("own", 5)
+    yield "the program's own gen", (output[0], said, status), ("2 of 2 scenarios, numbers 5 to 6, from gen, 20000 ticks each", "", 0)
+    made = subprocess.run([LINEDIFF, "gen", "6", "20000"], capture_output=True, text=True).stdout.splitlines()
+    yield "each again by its number", call("scenario", os.path.join(folder, "own"), "6")[0], made
+    usage = "usage: linediff judge COUNT | frames N | bench"
+    older = put(folder, "older", '#!/bin/sh\necho "%s" >&2\nexit 2\n' % usage, 0o755)
+    wanted = "sweep: this program has no command gen, so its scenarios can't be had by number; it says: %s\n" % usage
+    yield "a program without gen is refused", of_gen("refused", 5, older), ([], wanted, 3)
+
 
 
 def cases():

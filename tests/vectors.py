@@ -7,7 +7,7 @@ what is said then; `usage` is the line that names the commands. Inputs too long 
 import os
 import shlex
 
-from answers import ROOT, USAGE, run
+from answers import ROOT, USAGE, run, the_program
 
 FOLDER = os.path.join(ROOT, "tests", "vectors")
 
@@ -52,7 +52,9 @@ def long_inputs():
 
 
 def cases():
+    # The program itself: to words that are no command the launcher adds a line of its own.
+    program = the_program()
     for name in sorted(os.listdir(FOLDER)):
         for case, words, given, wanted in read(os.path.join(FOLDER, name)):
-            yield "%s: %s" % (name, case), run(words, given), wanted
+            yield "%s: %s" % (name, case), run(words, given, program=program), wanted
     yield from long_inputs()
