@@ -282,6 +282,11 @@ def disturbed(it):
     yield "and not for those that they were", (it.call("judge", "2")[::2], it.calls()), (answer("second")[::2], CALLS)
 
 
+def told_in_two(it):
+    it.change("launcher/build", 'echo "$name $status" >&7', 'printf "%s " "$name" >&7; sleep 1.2; echo "$status" >&7')
+    yield "how a crate ended comes in two parts, a second apart", it.call("judge", "2")[::2], answer()[::2]
+
+
 def no_rt(it):
     without = tools_without_rt(it.notes + "/tools")
     output, said, status = it.call("judge", "2", path=without)
@@ -363,7 +368,7 @@ def version(it):
 
 def cases():
     parts = [first_call, side_by_side, progress, reads_a_terminal, other_dates, older_commit, other_places, at_once, beside_the_gate]
-    parts += [gate_fails, disturbed, no_rt, not_proved, own_words, faulty_words, version]
+    parts += [gate_fails, disturbed, told_in_two, no_rt, not_proved, own_words, faulty_words, version]
     parts += [lambda it, number=number: interrupted(it, number) for number in (signal.SIGINT, signal.SIGTERM)]
     for part in parts:
         with tempfile.TemporaryDirectory() as room:
