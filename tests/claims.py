@@ -29,7 +29,7 @@ def calls_of(crate):
     calls = {}
     for path, text in code_of(crate).items():
         module, within = "laws::" if path.endswith("/laws.rt") else "", ""
-        for found in re.finditer(r"(?ms)^impl(?:<[^\n]*?>)? (?P<type>\w+)[^\n]*\{$|^(?P<at> *)pub fn (?P<name>\w+)(?P<head>.*?)^(?P=at)\{", text):
+        for found in re.finditer(r"(?ms)^impl(?:<[^\n]*?>)? (?P<type>\w+)[^\n]*\{$|^(?P<at> *)pub (?:extern \"C\" )?fn (?P<name>\w+)(?P<head>.*?)^(?P=at)\{", text):
             if found["type"]:
                 within = found["type"] + "::"
             else:

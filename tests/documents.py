@@ -88,7 +88,7 @@ def cases():
     table = text_of("docs/ARCHITECTURE.md").split("\n## Where each definition stands\n")[1]
     yield "ARCHITECTURE.md names the files that are there", lost_files(table, "crates"), []
     recipes = re.findall(r"(?ms)^\| step \| file \|\n.*?\n\n", text_of("CONTRIBUTING.md"))
-    yield "CONTRIBUTING.md names the files that are there", [lost_files(recipe) for recipe in recipes], [[]] * 4
+    yield "CONTRIBUTING.md names the files that are there", [lost_files(recipe) for recipe in recipes], [[]] * 5
     commands = [part.split() for part in USAGE.removeprefix("usage: linediff ").split(" | ")]
     told = subprocess.run([os.path.join(ROOT, "linediff"), "--help"], stdout=subprocess.PIPE, check=True, text=True).stdout
     helped = [words.split() for words in re.findall(r"(?m)^  \./linediff (\w+(?: [A-Z]+)*)$", told)]

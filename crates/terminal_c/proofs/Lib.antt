@@ -1,0 +1,4 @@
+mod HeldValues
+mod IsMade
+mod LooseValues
+mod Standing

@@ -1,0 +1,33 @@
+-- `none` owns nothing.
+use Rattle.std.proofs.Common.{◌≡◌, [], ◌∷◌, refl, None, lit<}
+use base.Logic.{emp}
+use base.Fml.{ftrue}
+use contract.Monad.{fact, fact_i}
+use contract.Running.{tables}
+use types.Kit.{‵, raw, ◌⊛◌, ◌$◌, ◌∵◌, !, qed, by, keep, split, use0}
+use types.Run.{lit, no_more, and_then, returns, enter}
+use types.ByLocal.{alloc_all, pass_all, free_all, look_at, sets}
+use types.Part.{agg}
+use denote.RattleType.{owns}
+use denote.Signature.{types_at}
+use denote.RawPtr.{null_ptr}
+use denote.Steps.{nothing}
+use denote.Triple.Walked.{Stays}
+use Rattle.std.proofs.raw_atomic.Walks.{proved_at, leaves}
+use Rattle.terminal_c.proofs.HeldValues.{word, held_in}
+use Rattle.terminal_c.specs.contracts.held.Held.none as f
+use Rattle.terminal_c.proofs.held.Held.none.Statement.{statement}
+use Rattle.terminal_c.proofs.held.Held.none.Code as code
+
+pub none_spec : {M : Type 1} → statement M
+none_spec 𝓤 𝓛 𝓜 𝓡 wired =
+    let H = 𝓛.H in let 𝓣 = tables 𝓤 H 𝓜 𝓡 𝓡.env in let c = f.clauses 𝓛 𝓜.mem 𝓡.returns in
+    let hs : Stays f.ended.signature.params f.ended.kept = tt in
+    proved_at 𝓛 f.ended hs c 𝓜 𝓡 tt f.Key.name code.function (code.unfolded 𝓤 H 𝓜 𝓡 wired) (λ z are.
+    qed 𝓛 ((‵ ftrue ⊛ ‵ (owns (types_at f.ended.signature.params z.0.0) z.0.3 z.0.4)) ∷ ‵ ftrue ∷ []) ∵ split ! $
+    enter ! 𝓣.C 𝓣.Λ code.function [] _ $ alloc_all ! (λ l. pass_all ! refl tt $
+    sets ! (agg ! (and_then ! (lit ! tt) (no_more !))) refl (tt, (record { fits = lit< tt }, tt)) $
+    nothing ! $ held_in ! null_ptr None $
+    use0 𝓛 (raw (fact 𝓤 (None ≡ None))) (fact_i 𝓤 (None ≡ None) (emp 𝓤) refl) $ nothing ! $
+    returns ! (look_at ! 0 refl) $ free_all ! refl $ keep ! (3 ∷ 0 ∷ 2 ∷ 1 ∷ []) $
+    by ! (leaves 𝓛 f.ended hs c z (word null_ptr) (record { at = null_ptr; terminal = None }) tt tt)))

@@ -1,0 +1,9 @@
+pub mod Answers
+pub mod Codes
+pub mod Layout
+pub mod Making
+pub mod Owned
+pub mod Seat
+pub mod Stands
+pub mod Status
+pub mod Told
