@@ -1,7 +1,4 @@
-"""Runs linediff as a user would, and looks at what it writes, what it says on standard error and how it ends.
-
-Needs cc, for the library that refuses one allocation after the other.
-"""
+"""Runs linediff as a user would, and looks at what it writes, what it says on standard error and how it ends."""
 import os
 import resource
 import subprocess
@@ -91,21 +88,6 @@ def ends(good, verdicts):
     yield "little memory", run(["judge", "2"], b"\n" * LARGEST, memory=12_000_000), (b"", b"no memory\n", 6)
 
 
-def refused_allocations(program, good, verdicts):
-    """A case for each allocation of a run: refused, it leaves nothing written. After the last one the answer is whole."""
-    with tempfile.TemporaryDirectory() as folder:
-        library = os.path.join(folder, "refuse.so")
-        source = os.path.join(ROOT, "tests", "refuse.c")
-        subprocess.run(["cc", "-shared", "-fPIC", "-o", library, source, "-ldl"], check=True)
-        for count in range(1, 1000):
-            environment = dict(os.environ, LD_PRELOAD=library, REFUSE=str(count))
-            told = run(["judge", "2"], good, program=program, environment=environment)
-            if told == (verdicts, b"", 0):
-                yield "%d allocations, none refused" % (count - 1), count > 1, True
-                return
-            yield "allocation %d refused" % count, told, (b"", b"no memory\n", 6)
-
-
 def examples():
     """Cases for what examples/README.md says of each input, counted in lines whose letters have been told there."""
 
@@ -156,4 +138,3 @@ def cases():
     yield from ends(good, verdicts)
     yield from line_ends()
     yield from examples()
-    yield from refused_allocations(program, good, verdicts)
