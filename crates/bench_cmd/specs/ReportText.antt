@@ -10,7 +10,7 @@ use Rattle.line_world.specs.Crossings.{Forged}
 use Rattle.line_world.specs.Occasions.{stations}
 use Rattle.line_world.specs.Report.{Lines}
 use Rattle.line_world.specs.Run.{Run}
-use Rattle.line_world.specs.StationLog.{StationLog}
+use Rattle.relay_core.specs.StationLog.{StationLog}
 use Rattle.line_world.specs.Totals.{TotalOf}
 use Rattle.line_world.specs.declared.line.Line.{Line}
 use Rattle.line_world.specs.declared.line.Total.{Total}

@@ -8,7 +8,7 @@ use Rattle.relay_core.specs.Accepted.{Accepted}
 use Rattle.line_world.specs.Crossings.{Forged, Starts}
 use Rattle.line_world.specs.Journals.{ArePair}
 use Rattle.line_world.specs.Run.{Run}
-use Rattle.line_world.specs.StationLog.{StationLog}
+use Rattle.relay_core.specs.StationLog.{StationLog}
 use Rattle.true_time.specs.TrueTime.{KeepsTrueTime}
 use Rattle.calm_channel.specs.Aligned.{AlignedFrom, AllowsExchanges, InForceFrom, aligned_tick}
 use Rattle.calm_channel.specs.Calm.{IsCalm}

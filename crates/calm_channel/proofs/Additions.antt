@@ -13,31 +13,32 @@ use Rattle.sample_store.specs.declared.ring.Numbered.{Numbered}
 use Rattle.sample_store.proofs.Alongs.{along-push}
 use Rattle.relay_core.specs.Accepted.{InForceWith}
 use Rattle.relay_core.specs.Decided.{Offers, accepted_by, offered_by, values_of}
-use Rattle.relay_core.specs.Log.{Call, now, stamp_of}
-use Rattle.relay_core.specs.Log.Call.{faults, hears, samples, sends}
+use Rattle.relay_core.specs.Log.{now, stamp_of}
+use Rattle.relay_core.specs.declared.call.Call.{Call}
+use Rattle.relay_core.specs.declared.call.Call.TheVariants as made
 use Rattle.relay_core.specs.Sent.{Slots, slot_by}
 use Rattle.relay_core.specs.declared.receipt.Receipt.{Receipt}
 use Rattle.relay_core.proofs.Calls.{Slots-push, now-push}
 use Rattle.relay_core.proofs.Lists.{All-flat_map}
 use Rattle.relay_core.proofs.Standing.{Offers-push}
 use Rattle.line_world.specs.Crossings.{Start, Starts}
-use Rattle.line_world.specs.StationLog.{StationLog, calls_by, stamp_at}
+use Rattle.relay_core.specs.StationLog.{StationLog, calls_by, stamp_at}
 use Rattle.line_world.proofs.Entries.{StationLog-push}
 use Rattle.calm_channel.proofs.Clocked.{stamped}
 use Rattle.calm_channel.proofs.Logs.{IsNoSlot, log-more, slots-same, starts-more, starts-same}
 
 -- a call that is neither a sample nor a slot
 abbrev pub IsOther : Call → Type 0
-IsOther (samples at values) = ⊥
-IsOther (sends at) = ⊥
-IsOther (hears at peer bits) = Unit {0}
-IsOther (faults at peer) = Unit {0}
+IsOther (made.Sample at values) = ⊥
+IsOther (made.Slot at) = ⊥
+IsOther (made.Bits at peer bits) = Unit {0}
+IsOther (made.Fault at peer) = Unit {0}
 
 other-no_slot : (call : Call) → IsOther call → IsNoSlot call
-other-no_slot (samples at values) other = tt
-other-no_slot (sends at) other = absurd other
-other-no_slot (hears at peer bits) other = tt
-other-no_slot (faults at peer) other = tt
+other-no_slot (made.Sample at values) other = tt
+other-no_slot (made.Slot at) other = absurd other
+other-no_slot (made.Bits at peer bits) other = tt
+other-no_slot (made.Fault at peer) other = tt
 
 -- what a peer's message offers is no own sample
 abbrev IsPeers : Offer → Type 0
@@ -58,14 +59,14 @@ Taken-peers spacing (offer ∷ more) offers all =
 
 module _ (f : Fields) (me : ℕ) where
   offered-peers : (log : List Call) (call : Call) → IsOther call → All IsPeers (offered_by f me log call)
-  offered-peers log (samples at values) other = absurd other
-  offered-peers log (sends at) other = absurd other
-  offered-peers log (hears at peer bits) other =
-      let call = hears at peer bits in
+  offered-peers log (made.Sample at values) other = absurd other
+  offered-peers log (made.Slot at) other = absurd other
+  offered-peers log (made.Bits at peer bits) other =
+      let call = made.Bits at peer bits in
       let exchanges : List Stamps = option_to_list (InForceWith f me peer (log ++ call ∷ [])) in
       All-flat_map IsPeers (λ r. map (values_of peer r) exchanges) (accepted_by f me peer log call)
       (λ (r : Receipt). All-map IsPeers (values_of peer r) exchanges (λ k d inside. tt))
-  offered-peers log (faults at peer) other = All-nil IsPeers
+  offered-peers log (made.Fault at peer) other = All-nil IsPeers
 
   -- the own samples that a log has
   abbrev pub taken_in : List Call → List Numbered
@@ -75,14 +76,14 @@ module _ (f : Fields) (me : ℕ) where
   taken-other log call other =
       ap (Taken f.spacing) (Offers-push f me log call) ∙ Taken-peers f.spacing (offered_by f me log call) (Offers f me log) (offered-peers log call other)
 
-  taken-slot : (log : List Call) (at : ℕ) → taken_in (log ++ sends at ∷ []) ≡ taken_in log
-  taken-slot log at = ap (Taken f.spacing) (Offers-push f me log (sends at) ∙ append-nil (Offers f me log))
+  taken-slot : (log : List Call) (at : ℕ) → taken_in (log ++ made.Slot at ∷ []) ≡ taken_in log
+  taken-slot log at = ap (Taken f.spacing) (Offers-push f me log (made.Slot at) ∙ append-nil (Offers f me log))
 
-  taken-sample : (log : List Call) (at time : ℕ) (values : Phases) → now (log ++ samples at values ∷ []) ≡ time
-      → taken_in (log ++ samples at values ∷ []) ≡ taken_in log ++ under (own_number f.spacing (taken_in log) time) values
+  taken-sample : (log : List Call) (at time : ℕ) (values : Phases) → now (log ++ made.Sample at values ∷ []) ≡ time
+      → taken_in (log ++ made.Sample at values ∷ []) ≡ taken_in log ++ under (own_number f.spacing (taken_in log) time) values
   taken-sample log at time values is =
-      ap (Taken f.spacing) (Offers-push f me log (samples at values))
-      ∙ along-push (λ before taken offer. taken_by f.spacing taken offer) (Offers f me log) (Own (now (log ++ samples at values ∷ [])) values)
+      ap (Taken f.spacing) (Offers-push f me log (made.Sample at values))
+      ∙ along-push (λ before taken offer. taken_by f.spacing taken offer) (Offers f me log) (Own (now (log ++ made.Sample at values ∷ [])) values)
       ∙ ap (λ (t : ℕ). taken_in log ++ under (own_number f.spacing (taken_in log) t) values) is
 
   taken-others : (calls log : List Call) → All IsOther calls → taken_in (log ++ calls) ≡ taken_in log
@@ -112,29 +113,29 @@ module _ (f : Fields) (me : ℕ) where
           }
 
       -- a sample
-      pub one-sample : (entry : Entry) (at time : ℕ) (values : Phases) → calls_by me entry ≡ samples at values ∷ []
-          → now (StationLog me journal ++ samples at values ∷ []) ≡ time
+      pub one-sample : (entry : Entry) (at time : ℕ) (values : Phases) → calls_by me entry ≡ made.Sample at values ∷ []
+          → now (StationLog me journal ++ made.Sample at values ∷ []) ≡ time
           → Holds (journal ++ entry ∷ []) (taken ++ under (own_number f.spacing taken time) values) sent starts
       one-sample entry at time values is is_time =
           let more = StationLog-push me journal entry ∙ ap (λ calls. StationLog me journal ++ calls) is in
-          let still : All IsNoSlot (samples at values ∷ []) = All-cons IsNoSlot (samples at values) [] tt (All-nil IsNoSlot) in
+          let still : All IsNoSlot (made.Sample at values ∷ []) = All-cons IsNoSlot (made.Sample at values) [] tt (All-nil IsNoSlot) in
           record {
             taken_are = ap taken_in more ∙ taken-sample (StationLog me journal) at time values is_time
                 ∙ ap (λ ts. ts ++ under (own_number f.spacing ts time) values) before.taken_are;
-            slots_are = ap (Slots f me peer) more ∙ slots-same f me peer (StationLog me journal) (samples at values ∷ []) still ∙ before.slots_are;
+            slots_are = ap (Slots f me peer) more ∙ slots-same f me peer (StationLog me journal) (made.Sample at values ∷ []) still ∙ before.slots_are;
             starts_are =
                 starts-same f me peer journal (entry ∷ []) (subst (All IsNoSlot) (sym (append-nil (calls_by me entry) ∙ is)) still)
                 ∙ before.starts_are;
           }
 
       -- a slot
-      pub one-slot : (entry : Entry) (at : ℕ) (slot : Slot Contents) → calls_by me entry ≡ sends at ∷ []
-          → slot_by f me peer (StationLog me journal) (Slots f me peer (StationLog me journal)) (sends at) ≡ slot ∷ []
+      pub one-slot : (entry : Entry) (at : ℕ) (slot : Slot Contents) → calls_by me entry ≡ made.Slot at ∷ []
+          → slot_by f me peer (StationLog me journal) (Slots f me peer (StationLog me journal)) (made.Slot at) ≡ slot ∷ []
           → Holds (journal ++ entry ∷ []) taken (sent ++ slot ∷ []) (starts ++ map (λ m. record { message = m; time = entry.time }) (option_to_list slot.loaded))
       one-slot entry at slot is loads =
           let old = StationLog me journal in
-          let next : Slots f me peer (old ++ sends at ∷ []) ≡ Slots f me peer old ++ slot ∷ [] =
-          Slots-push f me peer old (sends at) ∙ ap (λ slots. Slots f me peer old ++ slots) loads in
+          let next : Slots f me peer (old ++ made.Slot at ∷ []) ≡ Slots f me peer old ++ slot ∷ [] =
+          Slots-push f me peer old (made.Slot at) ∙ ap (λ slots. Slots f me peer old ++ slots) loads in
           let handed = ap (λ calls. old ++ calls) is in
           record {
             taken_are = ap taken_in (StationLog-push me journal entry ∙ handed) ∙ taken-slot old at ∙ before.taken_are;

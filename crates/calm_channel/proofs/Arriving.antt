@@ -19,8 +19,9 @@ use Rattle.relay_message.specs.Messages.{added}
 use Rattle.relay_core.specs.Accepted.{Accepted, Completed, accepted_among, accepted_of, completed_by, is_addressed, next_number}
 use Rattle.relay_core.specs.Calls.{AreCalls, AreStations}
 use Rattle.relay_core.specs.Line.{Line, Messages}
-use Rattle.relay_core.specs.Log.{Call, now, stamp_of as handed}
-use Rattle.relay_core.specs.Log.Call.{hears}
+use Rattle.relay_core.specs.Log.{now, stamp_of as handed}
+use Rattle.relay_core.specs.declared.call.Call.{Call}
+use Rattle.relay_core.specs.declared.call.Call.TheVariants as made
 use Rattle.relay_core.specs.Sent.{Sent, Slots}
 use Rattle.relay_core.specs.declared.receipt.Receipt.{Receipt}
 use Rattle.relay_core.proofs.Calls.{Completed-push, now-push}
@@ -33,7 +34,7 @@ use Rattle.line_world.specs.Journals.{AreFirst, ArePair, IsEntry}
 use Rattle.line_world.specs.Occasions.{Moment}
 use Rattle.line_world.specs.Occasions.Occasion.{arrival, departure, slot}
 use Rattle.line_world.specs.Run.{State, after, outcome_by, run_through}
-use Rattle.line_world.specs.StationLog.{StationLog, calls_by, stamp_at}
+use Rattle.relay_core.specs.StationLog.{StationLog, calls_by, stamp_at}
 use Rattle.line_world.specs.World.{stamp_of}
 use Rattle.line_world.proofs.FirstSlots.{world-idle}
 use Rattle.line_world.proofs.Moments.{IsSoFar}
@@ -275,7 +276,7 @@ module _ (s : Setup) (sound : IsSetup s) (calm : IsCalm s) (wanted : Wanted s) (
           }
       go (Some bits) is =
           let entry : Entry = came s old ticks from to bits in
-          let call : Call = hears (stamp_at to entry) from bits in
+          let call : Call = made.Bits (stamp_at to entry) from bits in
           let logged : StationLog to (old ++ entry ∷ []) ≡ StationLog to old ++ call ∷ [] =
           log-more to old (entry ∷ []) ∙ ap (λ (calls : List Call). StationLog to old ++ calls) (came-there s old ticks from to bits) in
           let handed_it : calls_by to entry ≡ call ∷ [] = sym (append-nil (calls_by to entry)) ∙ came-there s old ticks from to bits in

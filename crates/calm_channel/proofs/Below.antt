@@ -13,7 +13,7 @@ use Rattle.line_world.specs.Crossings.{Starts}
 use Rattle.line_world.specs.Journals.{AreFirst, ArePair}
 use Rattle.line_world.specs.Occasions.{Moment, at_tick, moments, moments_at}
 use Rattle.line_world.specs.Run.{State, run_through}
-use Rattle.line_world.specs.StationLog.{StationLog}
+use Rattle.relay_core.specs.StationLog.{StationLog}
 use Rattle.line_world.specs.World.{Leads}
 use Rattle.line_world.specs.Worlds.{FollowsScript, IsWorld, World}
 use Rattle.line_world.proofs.Firsts.{are_first}

@@ -17,7 +17,7 @@ use Rattle.c3794_frame.proofs.Sent.{length-frame_bits}
 use Rattle.payload_map.specs.Messages.{relay_slots}
 use Rattle.payload_map.specs.Sent.{Slot, frame_at, frames_from, left_after}
 use Rattle.relay_core.specs.Line.{bits_from, Line, rules_of}
-use Rattle.relay_core.specs.Log.{Call}
+use Rattle.relay_core.specs.declared.call.Call.{Call}
 use Rattle.relay_core.specs.Sent.{frames_sent}
 
 -- bits, one by one

@@ -9,12 +9,13 @@ use Rattle.pingpong.specs.declared.journal.Entry.{Entry}
 use Rattle.pingpong.specs.declared.journal.What.{What}
 use Rattle.pingpong.specs.declared.journal.What.TheVariants.{Came, SendFailed, Slot, TakeFailed, Took}
 use Rattle.pingpong.proofs.Gains.{WithinDrift-phase, phase-most}
-use Rattle.relay_core.specs.Log.{Call, stamp_of as handed}
-use Rattle.relay_core.specs.Log.Call.{faults, hears, samples, sends}
+use Rattle.relay_core.specs.Log.{stamp_of as handed}
+use Rattle.relay_core.specs.declared.call.Call.{Call}
+use Rattle.relay_core.specs.declared.call.Call.TheVariants as made
 use Rattle.waveform_reader.specs.Scenario.{Setup}
 use Rattle.waveform_reader.specs.Sound.{IsClock, IsSetup, true_clock}
 use Rattle.line_world.specs.Journals.{IsEntry}
-use Rattle.line_world.specs.StationLog.{StationLog, calls_by, calls_of, stamp_at}
+use Rattle.relay_core.specs.StationLog.{StationLog, calls_by, calls_of, stamp_at}
 use Rattle.line_world.specs.World.{stamp_of}
 
 -- the clock of a station
@@ -60,11 +61,11 @@ if_stamped {at = at} false call is = All-nil (λ call. handed call ≡ at)
 
 -- the stamp of an entry's call
 pub stamped : (me at : ℕ) (what : What) → All (λ call. handed call ≡ at) (calls_of me at what)
-stamped me at (Took station values) = if_stamped (station == me) (samples at values) refl
-stamped me at (Slot station first second) = if_stamped (station == me) (sends at) refl
-stamped me at (Came station peer bits) = if_stamped (station == me) (hears at peer bits) refl
-stamped me at (SendFailed station peer) = if_stamped (station == me) (faults at peer) refl
-stamped me at (TakeFailed station peer) = if_stamped (station == me) (faults at peer) refl
+stamped me at (Took station values) = if_stamped (station == me) (made.Sample at values) refl
+stamped me at (Slot station first second) = if_stamped (station == me) (made.Slot at) refl
+stamped me at (Came station peer bits) = if_stamped (station == me) (made.Bits at peer bits) refl
+stamped me at (SendFailed station peer) = if_stamped (station == me) (made.Fault at peer) refl
+stamped me at (TakeFailed station peer) = if_stamped (station == me) (made.Fault at peer) refl
 
 pub entry-stamped : (s : Setup) (me : ℕ) (entry : Entry) → IsEntry s entry → All (λ call. handed call ≡ stamp_of s me entry.time) (calls_by me entry)
 entry-stamped s me entry is =

@@ -3,13 +3,13 @@ use Rattle.std.proofs.Common.{◌≡◌, ℕ, List, [], ◌∷◌, ◌++◌, ari
 use Rattle.std.specs.Prelude.{is_some}
 use Rattle.pingpong.specs.declared.journal.Entry.{Entry}
 use Rattle.relay_core.specs.Accepted.{InForceWith}
-use Rattle.relay_core.specs.Log.{Call}
+use Rattle.relay_core.specs.declared.call.Call.{Call}
 use Rattle.waveform_reader.specs.Scenario.{Setup}
 use Rattle.waveform_reader.specs.Sound.{IsSetup}
 use Rattle.line_world.specs.Journals.{AreFirst, ArePair}
 use Rattle.line_world.specs.Occasions.{Moment}
 use Rattle.line_world.specs.Report.{station_of}
-use Rattle.line_world.specs.StationLog.{StationLog, calls_by}
+use Rattle.relay_core.specs.StationLog.{StationLog, calls_by}
 use Rattle.line_world.specs.World.{stamp_of}
 use Rattle.line_world.proofs.Entries.{StationLog-push}
 use Rattle.calm_channel.specs.Aligned.{AllowsClosely, AllowsExchanges, InForceFrom, aligned_tick, first_aligned_tick}

@@ -15,8 +15,9 @@ use Rattle.pingpong.specs.declared.journal.What.TheVariants.{Came, SendFailed, S
 use Rattle.relay_message.specs.FitPhases.{FitPhases}
 use Rattle.relay_core.specs.Calls.{AreCalls, FitValues, bits_of_call}
 use Rattle.relay_core.specs.Line.{bits_from}
-use Rattle.relay_core.specs.Log.{Call, stamp_of as handed}
-use Rattle.relay_core.specs.Log.Call.{faults, hears, samples, sends}
+use Rattle.relay_core.specs.Log.{stamp_of as handed}
+use Rattle.relay_core.specs.declared.call.Call.{Call}
+use Rattle.relay_core.specs.declared.call.Call.TheVariants as made
 use Rattle.relay_core.specs.Sent.{Slots}
 use Rattle.waveform_reader.specs.Scenario.{Setup}
 use Rattle.waveform_reader.specs.Shapes.{value_at}
@@ -25,7 +26,7 @@ use Rattle.line_world.specs.Journals.{AreFirst, ArePair, IsEntry, Names}
 use Rattle.line_world.specs.Occasions.{Moment, Occasion}
 use Rattle.line_world.specs.Occasions.Occasion.{arrival, departure, sampling, slot}
 use Rattle.line_world.specs.Run.{State, after, outcome_by, run_through, start}
-use Rattle.line_world.specs.StationLog.{StationLog, calls_by, calls_of, stamp_at}
+use Rattle.relay_core.specs.StationLog.{StationLog, calls_by, calls_of, stamp_at}
 use Rattle.line_world.specs.World.{Event, Leads, Outcome, entries_of, entry_of, frames_at, happens, journal_with, number_of, slot_with, stamp_of}
 use Rattle.line_world.specs.World.Outcome.{fails, gives, nothing}
 use Rattle.line_world.proofs.Moments.{IsSoFar, IsSoFar-all}
@@ -110,10 +111,10 @@ module _ (s : Setup) (fit : ValuesFit s) where
 
 -- a call that an entry hands to a station: its values fit, and its bits are a peer's
 abbrev IsPeers : ℕ → ℕ → Call → Type 0
-IsPeers stations me (samples at values) = FitPhases values
-IsPeers stations me (sends at) = Unit {0}
-IsPeers stations me (hears at peer bits) = ArePair stations me peer
-IsPeers stations me (faults at peer) = Unit {0}
+IsPeers stations me (made.Sample at values) = FitPhases values
+IsPeers stations me (made.Slot at) = Unit {0}
+IsPeers stations me (made.Bits at peer bits) = ArePair stations me peer
+IsPeers stations me (made.Fault at peer) = Unit {0}
 
 -- none or one of them
 if_one : (stations me : ℕ) (b : Bool) (call : Call) → (b ≡ true → IsPeers stations me call) → All (IsPeers stations me) (cond b (call ∷ []) [])
@@ -121,25 +122,25 @@ if_one stations me true call is = All-cons (IsPeers stations me) call [] (is ref
 if_one stations me false call is = All-nil (IsPeers stations me)
 
 peers-of : (stations me at : ℕ) (what : What) → Names stations what → HasFit what → All (IsPeers stations me) (calls_of me at what)
-peers-of stations me at (Took station values) named fit = if_one stations me (station == me) (samples at values) (λ is. fit)
-peers-of stations me at (Slot station first second) named fit = if_one stations me (station == me) (sends at) (λ is. tt)
+peers-of stations me at (Took station values) named fit = if_one stations me (station == me) (made.Sample at values) (λ is. fit)
+peers-of stations me at (Slot station first second) named fit = if_one stations me (station == me) (made.Slot at) (λ is. tt)
 peers-of stations me at (Came station peer bits) named fit =
-    if_one stations me (station == me) (hears at peer bits) (λ is. subst (λ (k : ℕ). ArePair stations k peer) (eqb-true station me is) named)
-peers-of stations me at (SendFailed station peer) named fit = if_one stations me (station == me) (faults at peer) (λ is. tt)
-peers-of stations me at (TakeFailed station peer) named fit = if_one stations me (station == me) (faults at peer) (λ is. tt)
+    if_one stations me (station == me) (made.Bits at peer bits) (λ is. subst (λ (k : ℕ). ArePair stations k peer) (eqb-true station me is) named)
+peers-of stations me at (SendFailed station peer) named fit = if_one stations me (station == me) (made.Fault at peer) (λ is. tt)
+peers-of stations me at (TakeFailed station peer) named fit = if_one stations me (station == me) (made.Fault at peer) (λ is. tt)
 
 -- the bits of such a call, where what each peer's line brings are bits
 bits-are : (stations me : ℕ) (call : Call) → IsPeers stations me call → ((peer : ℕ) → ArePair stations me peer → AreBits (bits_from peer call)) → AreBits (bits_of_call call)
-bits-are stations me (samples at values) is each = record { each = λ i. omega arith }
-bits-are stations me (sends at) is each = record { each = λ i. omega arith }
-bits-are stations me (hears at peer bits) is each = subst AreBits (ap (λ (b : Bool). cond b bits []) (eq-eqb peer peer refl)) (each peer is)
-bits-are stations me (faults at peer) is each = record { each = λ i. omega arith }
+bits-are stations me (made.Sample at values) is each = record { each = λ i. omega arith }
+bits-are stations me (made.Slot at) is each = record { each = λ i. omega arith }
+bits-are stations me (made.Bits at peer bits) is each = subst AreBits (ap (λ (b : Bool). cond b bits []) (eq-eqb peer peer refl)) (each peer is)
+bits-are stations me (made.Fault at peer) is each = record { each = λ i. omega arith }
 
 values-are : (stations me : ℕ) (call : Call) → IsPeers stations me call → FitValues call
-values-are stations me (samples at values) is = is
-values-are stations me (sends at) is = tt
-values-are stations me (hears at peer bits) is = tt
-values-are stations me (faults at peer) is = tt
+values-are stations me (made.Sample at values) is = is
+values-are stations me (made.Slot at) is = tt
+values-are stations me (made.Bits at peer bits) is = tt
+values-are stations me (made.Fault at peer) is = tt
 
 -- each call of a station's log in a calm run can be made
 module _ (s : Setup) (sound : IsSetup s) (calm : IsCalm s) (fit : ValuesFit s) (these : List Moment) (first : AreFirst s these) (me : ℕ) (there : IsStation s.settings.stations me) where

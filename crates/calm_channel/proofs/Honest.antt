@@ -16,8 +16,8 @@ use Rattle.pingpong.specs.declared.journal.What.{What}
 use Rattle.pingpong.specs.declared.journal.What.TheVariants.{Came, SendFailed, TakeFailed, Took}
 use Rattle.relay_core.specs.Accepted.{Accepted}
 use Rattle.relay_core.specs.Decided.{accepted_by}
-use Rattle.relay_core.specs.Log.{Call}
-use Rattle.relay_core.specs.Log.Call.{hears}
+use Rattle.relay_core.specs.declared.call.Call.{Call}
+use Rattle.relay_core.specs.declared.call.Call.TheVariants as made
 use Rattle.relay_core.specs.declared.receipt.Receipt.{Receipt}
 use Rattle.sample_store.specs.Along.{along, along_from}
 use Rattle.sample_store.proofs.Alongs.{along-push}
@@ -29,7 +29,7 @@ use Rattle.line_world.specs.Journals.{AreFirst, ArePair, IsEntry}
 use Rattle.line_world.specs.Occasions.{Moment, Occasion, moments}
 use Rattle.line_world.specs.Occasions.Occasion.{arrival, departure, sampling, slot}
 use Rattle.line_world.specs.Run.{State, outcome_by, run_through}
-use Rattle.line_world.specs.StationLog.{StationLog, calls_by, stamp_at}
+use Rattle.relay_core.specs.StationLog.{StationLog, calls_by, stamp_at}
 use Rattle.line_world.specs.World.{Outcome, entry_of, frames_at, happens, number_of, slot_with}
 use Rattle.line_world.specs.World.Outcome.{fails, gives, nothing}
 use Rattle.line_world.specs.declared.crossing.Arrival.{Arrival}
@@ -111,7 +111,7 @@ module _ (s : Setup) (sound : IsSetup s) (accepted : AcceptedAre s) where
       let is_entry : IsEntry s entry = subst (IsEntry s) at_last (so_far.entries (length old) entry (omega (arith, length-append old (entry ∷ [])))) in
       let pair : ArePair s.settings.stations receiver sender = is_entry.names in
       let turned : ArePair s.settings.stations sender receiver = record { one_there = pair.other_there; other_there = pair.one_there; differ = λ same. pair.differ (sym same) } in
-      let call : Call = hears (stamp_at receiver entry) sender bits in
+      let call : Call = made.Bits (stamp_at receiver entry) sender bits in
       let handed : calls_by receiver entry ≡ call ∷ [] = sym (append-nil (calls_by receiver entry)) ∙ came-there s old m.time sender receiver bits in
       let logged : StationLog receiver (old ++ entry ∷ []) ≡ StationLog receiver old ++ call ∷ [] =
       log-more receiver old (entry ∷ []) ∙ ap (λ (calls : List Call). StationLog receiver old ++ calls) (came-there s old m.time sender receiver bits) in

@@ -10,7 +10,8 @@ use Rattle.ld_base.specs.declared.message.Echo.{Echo}
 use Rattle.offset_track.specs.InForce.{InForce, is_candidate, is_slow}
 use Rattle.pingpong.specs.Exchange.{Stamps, exchange_of}
 use Rattle.relay_core.specs.Accepted.{Accepted, Exchanges, InForceWith, last_of}
-use Rattle.relay_core.specs.Log.{Call, now}
+use Rattle.relay_core.specs.Log.{now}
+use Rattle.relay_core.specs.declared.call.Call.{Call}
 use Rattle.relay_core.specs.Log as log
 use Rattle.relay_core.specs.Sent.{echo_of}
 use Rattle.relay_core.specs.declared.receipt.Receipt.{Receipt}
@@ -21,7 +22,7 @@ use Rattle.line_world.specs.Crossings.{Start, Starts}
 use Rattle.line_world.specs.Journals.{AreFirst, ArePair}
 use Rattle.line_world.specs.Occasions.{Moment, moments}
 use Rattle.line_world.specs.Occasions.Occasion.{slot}
-use Rattle.line_world.specs.StationLog.{StationLog}
+use Rattle.relay_core.specs.StationLog.{StationLog}
 use Rattle.line_world.specs.World.{stamp_of}
 use Rattle.calm_channel.specs.Calm.{transit}
 use Rattle.calm_channel.specs.Coming.{AcceptedAre, asked, asks, has_come, receipt_of}

@@ -16,8 +16,9 @@ use Rattle.payload_map.proofs.Sendable.{length-frames}
 use Rattle.pingpong.specs.declared.journal.Entry.{Entry}
 use Rattle.relay_message.specs.MessageOf.{spelled}
 use Rattle.relay_core.specs.Line.{Line, is_locked_from, rules_of as frame_rules}
-use Rattle.relay_core.specs.Log.{Call, now}
-use Rattle.relay_core.specs.Log.Call.{hears, sends}
+use Rattle.relay_core.specs.Log.{now}
+use Rattle.relay_core.specs.declared.call.Call.{Call}
+use Rattle.relay_core.specs.declared.call.Call.TheVariants as made
 use Rattle.relay_core.specs.Sent.{Sent, Slots, begins, frames_sent, ready}
 use Rattle.relay_core.proofs.Calls.{Line-push, Slots-push}
 use Rattle.sample_store.specs.Along.{along_from}
@@ -28,7 +29,7 @@ use Rattle.line_world.specs.Journals.{AreFirst, ArePair}
 use Rattle.line_world.specs.Occasions.{Moment, Occasion, Way}
 use Rattle.line_world.specs.Occasions.Occasion.{arrival, departure, sampling, slot}
 use Rattle.line_world.specs.Run.{Directed, State, accepted, after, asked as left_by, given, goes, lines_after, lines_of, loaded, newest_frame, outcome_by, run_through, script_on, start, with_script}
-use Rattle.line_world.specs.StationLog.{StationLog, calls_by, stamp_at}
+use Rattle.relay_core.specs.StationLog.{StationLog, calls_by, stamp_at}
 use Rattle.line_world.specs.Wires.{rules_of}
 use Rattle.line_world.specs.World.{Outcome, arrived, departed, entry_of}
 use Rattle.line_world.specs.World.Outcome.{nothing, gives}
@@ -124,7 +125,7 @@ sent-count f slots =
 -- the slot of a call on the line to a peer
 abbrev next_slot : Fields → ℕ → ℕ → List Call → ℕ → Loaded Contents
 next_slot f me peer log stamp = record {
-  loaded = begins f.channels (Slots f me peer log) (ready f me peer log (now (log ++ sends stamp ∷ [])));
+  loaded = begins f.channels (Slots f me peer log) (ready f me peer log (now (log ++ made.Slot stamp ∷ [])));
   yellow = not (is_locked_from f peer log);
 }
 
@@ -243,7 +244,7 @@ module _ (s : Setup) (from to : ℕ) where
       record {
         line =
             ap (Line from) (log-more to journal (entry ∷ []) ∙ ap (λ (calls : List Call). StationLog to journal ++ calls) (came-there s journal ticks from to bits))
-            ∙ Line-push from (StationLog to journal) (hears (stamp_at to entry) from bits)
+            ∙ Line-push from (StationLog to journal) (made.Bits (stamp_at to entry) from bits)
             ∙ ap (λ (b : Bool). line_in journal ++ cond b bits []) own;
         slots = ap (Slots f from to) quiet;
         starts =
@@ -266,7 +267,7 @@ module _ (s : Setup) (from to : ℕ) where
 
   -- what its sender's slot adds to the messages that began
   slot-logged : (journal : List Entry) (time : ℕ) → let entry = slotted s journal time from to in
-      StationLog from (journal ++ entry ∷ []) ≡ StationLog from journal ++ sends (stamp_at from entry) ∷ []
+      StationLog from (journal ++ entry ∷ []) ≡ StationLog from journal ++ made.Slot (stamp_at from entry) ∷ []
   slot-logged journal time =
       let entry : Entry = slotted s journal time from to in
       log-more from journal (entry ∷ [])
@@ -286,7 +287,7 @@ module _ (s : Setup) (from to : ℕ) where
       let log : List Call = StationLog from journal in
       let entry : Entry = slotted s journal time from to in
       starts-more f from to journal entry (slot_at journal time)
-      (ap (λ (calls : List Call). Slots f from to (log ++ calls)) (slotted-here s journal time from to) ∙ Slots-push f from to log (sends (stamp_at from entry)))
+      (ap (λ (calls : List Call). Slots f from to (log ++ calls)) (slotted-here s journal time from to) ∙ Slots-push f from to log (made.Slot (stamp_at from entry)))
 
   -- its frame adds nothing to the journal
   pub sent-journal : All IsSteady rules → (ticks sent slots time : ℕ) (state : State) → Keeps s from to ticks sent slots state
@@ -323,7 +324,7 @@ module _ (s : Setup) (from to : ℕ) where
         let here : Loaded Contents = slot_at journal time in
         let frame = sent-push f slots here in
         let new_slots : slots_in (journal ++ entry ∷ []) ≡ slots ++ here ∷ [] =
-        ap (Slots f from to) (slot-logged journal time) ∙ Slots-push f from to log (sends (stamp_at from entry)) in
+        ap (Slots f from to) (slot-logged journal time) ∙ Slots-push f from to log (made.Slot (stamp_at from entry)) in
         let at_slot : time ≡ 125 * (0 + length slots) = omega (arith, k.count) in
         record {
           queue = k.queue;

@@ -12,8 +12,8 @@ use Rattle.pingpong.specs.declared.journal.What.TheVariants.{Came, SendFailed, T
 use Rattle.payload_map.specs.Sent.{Slot as Loaded}
 use Rattle.relay_core.specs.Accepted.{Accepted}
 use Rattle.relay_core.specs.Line.{Line, bits_from}
-use Rattle.relay_core.specs.Log.{Call}
-use Rattle.relay_core.specs.Log.Call.{faults, hears, samples, sends}
+use Rattle.relay_core.specs.declared.call.Call.{Call}
+use Rattle.relay_core.specs.declared.call.Call.TheVariants as made
 use Rattle.relay_core.specs.Sent.{Begun, Slots, begun_in, slot_by}
 use Rattle.relay_core.proofs.Accepting.{Accepted-same}
 use Rattle.relay_core.proofs.Calls.{Line-push, Slots-push, added-is, added-none}
@@ -25,7 +25,7 @@ use Rattle.waveform_reader.specs.Shapes.{value_at}
 use Rattle.line_world.specs.Crossings.{Starts, begun_with}
 use Rattle.line_world.specs.Occasions.{Occasion}
 use Rattle.line_world.specs.Occasions.Occasion.{arrival, departure, sampling, slot}
-use Rattle.line_world.specs.StationLog.{StationLog, calls_by, stamp_at}
+use Rattle.relay_core.specs.StationLog.{StationLog, calls_by, stamp_at}
 use Rattle.line_world.specs.World.{Outcome, entry_of, frames_at, happens, number_of, slot_with}
 use Rattle.line_world.specs.World.Outcome.{nothing, gives, fails}
 use Rattle.calm_channel.proofs.Pace.{touches}
@@ -35,10 +35,10 @@ abbrev pub IsDeaf : ℕ → Call → Type 0
 IsDeaf peer call = bits_from peer call ≡ []
 
 abbrev pub IsNoSlot : Call → Type 0
-IsNoSlot (samples at values) = Unit {0}
-IsNoSlot (sends at) = ⊥
-IsNoSlot (hears at peer bits) = Unit {0}
-IsNoSlot (faults at peer) = Unit {0}
+IsNoSlot (made.Sample at values) = Unit {0}
+IsNoSlot (made.Slot at) = ⊥
+IsNoSlot (made.Bits at peer bits) = Unit {0}
+IsNoSlot (made.Fault at peer) = Unit {0}
 
 -- such calls change neither the line and what was accepted
 pub line-same : (f : Fields) (me peer : ℕ) (log calls : List Call) → All (IsDeaf peer) calls
@@ -55,10 +55,10 @@ line-same f me peer log (call ∷ calls) deaf =
 
 -- nor the slots
 no-slot : (f : Fields) (me peer : ℕ) (before : List Call) (slots : List (Loaded Contents)) (call : Call) → IsNoSlot call → slot_by f me peer before slots call ≡ []
-no-slot f me peer before slots (samples at values) is = refl
-no-slot f me peer before slots (sends at) is = absurd is
-no-slot f me peer before slots (hears at from bits) is = refl
-no-slot f me peer before slots (faults at from) is = refl
+no-slot f me peer before slots (made.Sample at values) is = refl
+no-slot f me peer before slots (made.Slot at) is = absurd is
+no-slot f me peer before slots (made.Bits at from bits) is = refl
+no-slot f me peer before slots (made.Fault at from) is = refl
 
 pub slots-same : (f : Fields) (me peer : ℕ) (log calls : List Call) → All IsNoSlot calls → Slots f me peer (log ++ calls) ≡ Slots f me peer log
 slots-same f me peer log [] still = ap (Slots f me peer) (append-nil log)
@@ -130,12 +130,12 @@ module _ (s : Setup) (before : List Entry) (time from to : ℕ) where
       one_all (IsDeaf from) to (entry_of s time (Came receiver sender bits)) (go (receiver == to) (sender == from) refl is)
     where
       go : (b c : Bool) → (sender == from) ≡ c → (c && b) ≡ false
-          → All (IsDeaf from) (cond b (hears (stamp_at to (entry_of s time (Came receiver sender bits))) sender bits ∷ []) [])
+          → All (IsDeaf from) (cond b (made.Bits (stamp_at to (entry_of s time (Came receiver sender bits))) sender bits ∷ []) [])
       go false c other both = All-nil (IsDeaf from)
       go true true same both = absurd (cc)
       go true false other both = All-cons (IsDeaf from) _ [] (ap (λ (b : Bool). cond b bits []) other) (All-nil (IsDeaf from))
   untouched-deaf (arrival receiver sender) fails is =
-      one_all (IsDeaf from) to (entry_of s time (TakeFailed receiver sender)) (if_all (IsDeaf from) (receiver == to) (faults (stamp_at to (entry_of s time (TakeFailed receiver sender))) sender) refl)
+      one_all (IsDeaf from) to (entry_of s time (TakeFailed receiver sender)) (if_all (IsDeaf from) (receiver == to) (made.Fault (stamp_at to (entry_of s time (TakeFailed receiver sender))) sender) refl)
   untouched-deaf (sampling station) outcome is = go (nat_lt (number_of s station (time - 1)) (number_of s station time))
     where
       what : What
@@ -144,23 +144,23 @@ module _ (s : Setup) (before : List Entry) (time from to : ℕ) where
       go : (b : Bool) → All (IsDeaf from) (StationLog to (map (entry_of s time) (cond b (what ∷ []) [])))
       go true =
           one_all (IsDeaf from) to (entry_of s time what)
-          (if_all (IsDeaf from) (station == to) (samples (stamp_at to (entry_of s time what)) (value_at s.settings s.shapes station time)) refl)
+          (if_all (IsDeaf from) (station == to) (made.Sample (stamp_at to (entry_of s time what)) (value_at s.settings s.shapes station time)) refl)
       go false = All-nil (IsDeaf from)
   untouched-deaf (slot station) outcome is =
       let what = slot_with station (frames_at s before time station) in
-      one_all (IsDeaf from) to (entry_of s time what) (if_all (IsDeaf from) (station == to) (sends (stamp_at to (entry_of s time what))) refl)
+      one_all (IsDeaf from) to (entry_of s time what) (if_all (IsDeaf from) (station == to) (made.Slot (stamp_at to (entry_of s time what))) refl)
   untouched-deaf (departure sender receiver) nothing is = All-nil (IsDeaf from)
   untouched-deaf (departure sender receiver) (gives bits) is = All-nil (IsDeaf from)
   untouched-deaf (departure sender receiver) fails is =
-      one_all (IsDeaf from) to (entry_of s time (SendFailed sender receiver)) (if_all (IsDeaf from) (sender == to) (faults (stamp_at to (entry_of s time (SendFailed sender receiver))) receiver) refl)
+      one_all (IsDeaf from) to (entry_of s time (SendFailed sender receiver)) (if_all (IsDeaf from) (sender == to) (made.Fault (stamp_at to (entry_of s time (SendFailed sender receiver))) receiver) refl)
 
   -- and its sender no slot
   pub untouched-still : (o : Occasion) (outcome : Outcome) → touches from to o ≡ false → All IsNoSlot (StationLog from (entries o outcome))
   untouched-still (arrival receiver sender) nothing is = All-nil IsNoSlot
   untouched-still (arrival receiver sender) (gives bits) is =
-      one_all IsNoSlot from (entry_of s time (Came receiver sender bits)) (if_all IsNoSlot (receiver == from) (hears (stamp_at from (entry_of s time (Came receiver sender bits))) sender bits) tt)
+      one_all IsNoSlot from (entry_of s time (Came receiver sender bits)) (if_all IsNoSlot (receiver == from) (made.Bits (stamp_at from (entry_of s time (Came receiver sender bits))) sender bits) tt)
   untouched-still (arrival receiver sender) fails is =
-      one_all IsNoSlot from (entry_of s time (TakeFailed receiver sender)) (if_all IsNoSlot (receiver == from) (faults (stamp_at from (entry_of s time (TakeFailed receiver sender))) sender) tt)
+      one_all IsNoSlot from (entry_of s time (TakeFailed receiver sender)) (if_all IsNoSlot (receiver == from) (made.Fault (stamp_at from (entry_of s time (TakeFailed receiver sender))) sender) tt)
   untouched-still (sampling station) outcome is = go (nat_lt (number_of s station (time - 1)) (number_of s station time))
     where
       what : What
@@ -169,37 +169,37 @@ module _ (s : Setup) (before : List Entry) (time from to : ℕ) where
       go : (b : Bool) → All IsNoSlot (StationLog from (map (entry_of s time) (cond b (what ∷ []) [])))
       go true =
           one_all IsNoSlot from (entry_of s time what)
-          (if_all IsNoSlot (station == from) (samples (stamp_at from (entry_of s time what)) (value_at s.settings s.shapes station time)) tt)
+          (if_all IsNoSlot (station == from) (made.Sample (stamp_at from (entry_of s time what)) (value_at s.settings s.shapes station time)) tt)
       go false = All-nil IsNoSlot
   untouched-still (slot station) outcome is =
       let what = slot_with station (frames_at s before time station) in
       one_all IsNoSlot from (entry_of s time what)
-      (subst (λ (b : Bool). All IsNoSlot (cond b (sends (stamp_at from (entry_of s time what)) ∷ []) [])) (sym is) (All-nil IsNoSlot))
+      (subst (λ (b : Bool). All IsNoSlot (cond b (made.Slot (stamp_at from (entry_of s time what)) ∷ []) [])) (sym is) (All-nil IsNoSlot))
   untouched-still (departure sender receiver) nothing is = All-nil IsNoSlot
   untouched-still (departure sender receiver) (gives bits) is = All-nil IsNoSlot
   untouched-still (departure sender receiver) fails is =
-      one_all IsNoSlot from (entry_of s time (SendFailed sender receiver)) (if_all IsNoSlot (sender == from) (faults (stamp_at from (entry_of s time (SendFailed sender receiver))) receiver) tt)
+      one_all IsNoSlot from (entry_of s time (SendFailed sender receiver)) (if_all IsNoSlot (sender == from) (made.Fault (stamp_at from (entry_of s time (SendFailed sender receiver))) receiver) tt)
 
   -- bits that come over the line: the receiver's call, and none of the sender
   abbrev pub came : List ℕ → Entry
   came bits = entry_of s time (Came to from bits)
 
-  pub came-there : (bits : List ℕ) → StationLog to (came bits ∷ []) ≡ hears (stamp_at to (came bits)) from bits ∷ []
+  pub came-there : (bits : List ℕ) → StationLog to (came bits ∷ []) ≡ made.Bits (stamp_at to (came bits)) from bits ∷ []
   came-there bits =
-      append-nil (calls_by to (came bits)) ∙ ap (λ (b : Bool). cond b (hears (stamp_at to (came bits)) from bits ∷ []) []) (eq-eqb to to refl)
+      append-nil (calls_by to (came bits)) ∙ ap (λ (b : Bool). cond b (made.Bits (stamp_at to (came bits)) from bits ∷ []) []) (eq-eqb to to refl)
 
   pub came-elsewhere : (bits : List ℕ) → from ≢ to → StationLog from (came bits ∷ []) ≡ []
   came-elsewhere bits differ =
       append-nil (calls_by from (came bits))
-      ∙ ap (λ (b : Bool). cond b (hears (stamp_at from (came bits)) from bits ∷ []) []) (ne_eqb to from (λ same. differ (sym same)))
+      ∙ ap (λ (b : Bool). cond b (made.Bits (stamp_at from (came bits)) from bits ∷ []) []) (ne_eqb to from (λ same. differ (sym same)))
 
   -- a slot of the sender: its call, and none of the receiver
   abbrev pub slotted : Entry
   slotted = entry_of s time (slot_with from (frames_at s before time from))
 
-  pub slotted-here : calls_by from slotted ≡ sends (stamp_at from slotted) ∷ []
-  slotted-here = ap (λ (b : Bool). cond b (sends (stamp_at from slotted) ∷ []) []) (eq-eqb from from refl)
+  pub slotted-here : calls_by from slotted ≡ made.Slot (stamp_at from slotted) ∷ []
+  slotted-here = ap (λ (b : Bool). cond b (made.Slot (stamp_at from slotted) ∷ []) []) (eq-eqb from from refl)
 
   pub slotted-elsewhere : from ≢ to → StationLog to (slotted ∷ []) ≡ []
   slotted-elsewhere differ =
-      append-nil (calls_by to slotted) ∙ ap (λ (b : Bool). cond b (sends (stamp_at to slotted) ∷ []) []) (ne_eqb from to differ)
+      append-nil (calls_by to slotted) ∙ ap (λ (b : Bool). cond b (made.Slot (stamp_at to slotted) ∷ []) []) (ne_eqb from to differ)

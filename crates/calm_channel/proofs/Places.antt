@@ -6,16 +6,16 @@ use Rattle.std.proofs.lemmas.List.{length-append, length_push}
 use Rattle.pingpong.specs.declared.journal.Entry.{Entry}
 use Rattle.pingpong.specs.declared.journal.What.{What}
 use Rattle.pingpong.specs.declared.journal.What.TheVariants.{Came, SendFailed, Slot, TakeFailed, Took}
-use Rattle.relay_core.specs.Log.{Call}
+use Rattle.relay_core.specs.declared.call.Call.{Call}
 use Rattle.relay_core.specs.Log as log
-use Rattle.relay_core.specs.Log.Call.{faults, hears, samples, sends}
+use Rattle.relay_core.specs.declared.call.Call.TheVariants as made
 use Rattle.waveform_reader.specs.Scenario.{Setup}
 use Rattle.waveform_reader.specs.Shapes.{value_at}
 use Rattle.line_world.specs.Occasions.{Moment, Occasion, moments}
 use Rattle.line_world.specs.Occasions.Occasion.{arrival, departure, sampling, slot}
 use Rattle.line_world.specs.Report.{station_of}
 use Rattle.line_world.specs.Run.{outcome_by, run_through}
-use Rattle.line_world.specs.StationLog.{calls_of}
+use Rattle.relay_core.specs.StationLog.{calls_of}
 use Rattle.line_world.specs.World.{Outcome, entry_of, frames_at, happens, number_of, slot_with}
 use Rattle.line_world.specs.World.Outcome.{fails, gives, nothing}
 use Rattle.calm_channel.proofs.Stations.{journal_of}
@@ -130,8 +130,8 @@ module _ (s : Setup) where
 
 -- an entry hands its station a call at its stamp
 pub handed : (me at : ℕ) (what : What) → station_of what ≡ me → (call : Call) × (calls_of me at what ≡ call ∷ []) × (log.stamp_of call ≡ at)
-handed me at (Took station values) is = (samples at values, ap (λ (b : Bool). cond b (samples at values ∷ []) []) (eq-eqb station me is), refl)
-handed me at (Slot station first second) is = (sends at, ap (λ (b : Bool). cond b (sends at ∷ []) []) (eq-eqb station me is), refl)
-handed me at (Came station peer bits) is = (hears at peer bits, ap (λ (b : Bool). cond b (hears at peer bits ∷ []) []) (eq-eqb station me is), refl)
-handed me at (SendFailed station peer) is = (faults at peer, ap (λ (b : Bool). cond b (faults at peer ∷ []) []) (eq-eqb station me is), refl)
-handed me at (TakeFailed station peer) is = (faults at peer, ap (λ (b : Bool). cond b (faults at peer ∷ []) []) (eq-eqb station me is), refl)
+handed me at (Took station values) is = (made.Sample at values, ap (λ (b : Bool). cond b (made.Sample at values ∷ []) []) (eq-eqb station me is), refl)
+handed me at (Slot station first second) is = (made.Slot at, ap (λ (b : Bool). cond b (made.Slot at ∷ []) []) (eq-eqb station me is), refl)
+handed me at (Came station peer bits) is = (made.Bits at peer bits, ap (λ (b : Bool). cond b (made.Bits at peer bits ∷ []) []) (eq-eqb station me is), refl)
+handed me at (SendFailed station peer) is = (made.Fault at peer, ap (λ (b : Bool). cond b (made.Fault at peer ∷ []) []) (eq-eqb station me is), refl)
+handed me at (TakeFailed station peer) is = (made.Fault at peer, ap (λ (b : Bool). cond b (made.Fault at peer ∷ []) []) (eq-eqb station me is), refl)

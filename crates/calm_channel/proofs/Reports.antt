@@ -16,12 +16,13 @@ use Rattle.pingpong.specs.declared.journal.What.TheVariants.{Came, SendFailed, S
 use Rattle.relay_core.specs.Accepted.{InForceWith}
 use Rattle.relay_core.specs.AlarmState.{AlarmState}
 use Rattle.relay_core.specs.Answers.{changes_by, changes_of, judged_by}
-use Rattle.relay_core.specs.Log.{Call, peers}
+use Rattle.relay_core.specs.Log.{peers}
+use Rattle.relay_core.specs.declared.call.Call.{Call}
 use Rattle.relay_core.specs.declared.answers.Change.{Change}
 use Rattle.relay_core.proofs.Lists.{All-flat_map}
 use Rattle.sample_store.specs.Along.{along, along_from}
 use Rattle.line_world.specs.Report.{Lines, alarm_line, brings_exchange, crossing_in_force, decisions, est_line, estimates, lines_of, set_line, station_of}
-use Rattle.line_world.specs.StationLog.{StationLog, calls_by, stamp_at}
+use Rattle.relay_core.specs.StationLog.{StationLog, calls_by, stamp_at}
 use Rattle.line_world.specs.declared.line.Line.{Line}
 use Rattle.line_world.proofs.Entries.{StationLog-push}
 use Rattle.calm_channel.specs.Aligned.{AlignedFrom, InForceFrom, unaligned}

@@ -18,8 +18,9 @@ use Rattle.sample_store.specs.Offers.{next_number, own_number, under}
 use Rattle.sample_store.specs.declared.ring.Numbered.{Numbered}
 use Rattle.relay_core.specs.Accepted.{Accepted, last_of}
 use Rattle.relay_core.specs.Line.{is_locked_from}
-use Rattle.relay_core.specs.Log.{Call, now}
-use Rattle.relay_core.specs.Log.Call.{faults, hears, samples, sends}
+use Rattle.relay_core.specs.Log.{now}
+use Rattle.relay_core.specs.declared.call.Call.{Call}
+use Rattle.relay_core.specs.declared.call.Call.TheVariants as made
 use Rattle.relay_core.specs.Sent.{Slots, begins, echo_of, message_of, ready}
 use Rattle.waveform_reader.specs.Scenario.{Setup}
 use Rattle.waveform_reader.specs.Shapes.{value_at}
@@ -29,7 +30,7 @@ use Rattle.line_world.specs.Journals.{AreFirst, ArePair}
 use Rattle.line_world.specs.Occasions.{Moment, Occasion, moments}
 use Rattle.line_world.specs.Occasions.Occasion.{arrival, departure, sampling, slot}
 use Rattle.line_world.specs.Run.{outcome_by, run_through}
-use Rattle.line_world.specs.StationLog.{StationLog, calls_by, calls_of, stamp_at}
+use Rattle.relay_core.specs.StationLog.{StationLog, calls_by, calls_of, stamp_at}
 use Rattle.line_world.specs.World.{Outcome, entry_of, frames_at, happens, number_of, slot_with, stamp_of}
 use Rattle.line_world.specs.World.Outcome.{fails, gives, nothing}
 use Rattle.calm_channel.proofs.Additions.{Holds, IsOther, entries-other, now-call, now-entries, one-sample, one-slot, taken_in}
@@ -166,15 +167,15 @@ module _ (s : Setup) (kept : IsSetup s) (me peer : ℕ) (pair : ArePair s.settin
     arrivals-other : (receiver sender : ℕ) (outcome : Outcome) → All AreOthers (happens s old t (arrival receiver sender) outcome)
     arrivals-other receiver sender nothing = All-nil AreOthers
     arrivals-other receiver sender (gives bits) =
-        All-cons AreOthers (Came receiver sender bits) [] (if-other (receiver == me) (hears at sender bits) tt) (All-nil AreOthers)
+        All-cons AreOthers (Came receiver sender bits) [] (if-other (receiver == me) (made.Bits at sender bits) tt) (All-nil AreOthers)
     arrivals-other receiver sender fails =
-        All-cons AreOthers (TakeFailed receiver sender) [] (if-other (receiver == me) (faults at sender) tt) (All-nil AreOthers)
+        All-cons AreOthers (TakeFailed receiver sender) [] (if-other (receiver == me) (made.Fault at sender) tt) (All-nil AreOthers)
 
     departures-other : (sender receiver : ℕ) (outcome : Outcome) → All AreOthers (happens s old t (departure sender receiver) outcome)
     departures-other sender receiver nothing = All-nil AreOthers
     departures-other sender receiver (gives bits) = All-nil AreOthers
     departures-other sender receiver fails =
-        All-cons AreOthers (SendFailed sender receiver) [] (if-other (sender == me) (faults at receiver) tt) (All-nil AreOthers)
+        All-cons AreOthers (SendFailed sender receiver) [] (if-other (sender == me) (made.Fault at receiver) tt) (All-nil AreOthers)
 
     samplings-other : (station : ℕ) (outcome : Outcome) → (station == me) ≡ false → All AreOthers (happens s old t (sampling station) outcome)
     samplings-other station outcome away = go (nat_lt (number_of s station (t - 1)) (number_of s station t))
@@ -182,14 +183,14 @@ module _ (s : Setup) (kept : IsSetup s) (me peer : ℕ) (pair : ArePair s.settin
         go : (b : Bool) → All AreOthers (cond b (Took station (value_at f s.shapes station t) ∷ []) [])
         go true =
             All-cons AreOthers (Took station (value_at f s.shapes station t)) []
-            (subst (λ (b : Bool). All IsOther (cond b (samples at (value_at f s.shapes station t) ∷ []) [])) (sym away) (All-nil IsOther))
+            (subst (λ (b : Bool). All IsOther (cond b (made.Sample at (value_at f s.shapes station t) ∷ []) [])) (sym away) (All-nil IsOther))
             (All-nil AreOthers)
         go false = All-nil AreOthers
 
     slots-other : (station : ℕ) (outcome : Outcome) → (station == me) ≡ false → All AreOthers (happens s old t (slot station) outcome)
     slots-other station outcome away =
         All-cons AreOthers (slot_with station (frames_at s old t station)) []
-        (subst (λ (b : Bool). All IsOther (cond b (sends at ∷ []) [])) (sym away) (All-nil IsOther))
+        (subst (λ (b : Bool). All IsOther (cond b (made.Slot at ∷ []) [])) (sym away) (All-nil IsOther))
         (All-nil AreOthers)
 
     itself : (me == me) ≡ true
@@ -218,7 +219,7 @@ module _ (s : Setup) (kept : IsSetup s) (me peer : ℕ) (pair : ArePair s.settin
         go true is =
             let more : number_of s me (t - 1) < number_of s me t = ltb-true (number_of s me (t - 1)) (number_of s me t) is in
             let entry = entry_of s t (Took me values) in
-            let calls : calls_by me entry ≡ samples at values ∷ [] = ap (λ (b : Bool). cond b (samples at values ∷ []) []) itself in
+            let calls : calls_by me entry ≡ made.Sample at values ∷ [] = ap (λ (b : Bool). cond b (made.Sample at values ∷ []) []) itself in
             let at_most : All (λ x. x.number ≤ number_of s me (t - 1)) taken = subst (λ (n : ℕ). All (λ x. x.number ≤ number_of s me (n - 1)) taken) is_t before.has_taken.most in
             let above : next_number taken ≤ number_of s me t = omega (arith, next_number-most taken (number_of s me (t - 1)) at_most, more) in
             let takes : own_number f.spacing taken at ≡ Some (number_of s me t) =
@@ -232,7 +233,7 @@ module _ (s : Setup) (kept : IsSetup s) (me peer : ℕ) (pair : ArePair s.settin
             let whats_are : old ++ map (entry_of s t) (whats (sampling me)) ≡ old ++ entry ∷ [] =
             ap (λ (b : Bool). old ++ map (entry_of s t) (cond b (Took me values ∷ []) [])) is in
             let holds = one-sample f me peer old taken sent starts held entry at at values calls
-            (now-call (StationLog me old) (samples at values) (early (sampling me) before step)) in
+            (now-call (StationLog me old) (made.Sample at values) (early (sampling me) before step)) in
             keeps-with (sampling me) (m.samples + 1) m.slots (taken ++ x ∷ []) sent starts before step samples_are (omega arith)
             (subst (λ (j : List Entry). Holds f me peer j (taken ++ x ∷ []) sent starts) (sym whats_are)
             (subst (λ (xs : List Numbered). Holds f me peer (old ++ entry ∷ []) xs sent starts) same holds))
@@ -260,7 +261,7 @@ module _ (s : Setup) (kept : IsSetup s) (me peer : ℕ) (pair : ArePair s.settin
         log = StationLog me old
 
         time : ℕ
-        time = now (log ++ sends at ∷ [])
+        time = now (log ++ made.Slot at ∷ [])
 
         echo : Option Echo
         echo = echo_of (last_of (Accepted f me peer log))
@@ -271,14 +272,14 @@ module _ (s : Setup) (kept : IsSetup s) (me peer : ℕ) (pair : ArePair s.settin
         entry : Entry
         entry = entry_of s t (slot_with me (frames_at s old t me))
 
-        calls : calls_by me entry ≡ sends at ∷ []
-        calls = ap (λ (b : Bool). cond b (sends at ∷ []) []) itself
+        calls : calls_by me entry ≡ made.Slot at ∷ []
+        calls = ap (λ (b : Bool). cond b (made.Slot at ∷ []) []) itself
 
         says : (x : Numbered) → (message_of me peer time echo x).number ≡ x.number
         says x = refl
 
         stamped : time ≡ at
-        stamped = now-call log (sends at) (early (slot me) before step)
+        stamped = now-call log (made.Slot at) (early (slot me) before step)
 
         samples_are : (marked me peer m (moment_of t (slot me))).samples ≡ m.samples
         samples_are = omega arith

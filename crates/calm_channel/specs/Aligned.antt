@@ -7,7 +7,7 @@ use Rattle.pingpong.specs.declared.journal.Entry.{Entry}
 use Rattle.relay_core.specs.Accepted.{InForceWith}
 use Rattle.waveform_reader.specs.Scenario.{Setup}
 use Rattle.line_world.specs.Report.{Lines, station_of}
-use Rattle.line_world.specs.StationLog.{StationLog}
+use Rattle.relay_core.specs.StationLog.{StationLog}
 use Rattle.line_world.specs.declared.line.Line.{Line}
 use Rattle.line_world.specs.declared.line.Line.TheVariants as line
 use Rattle.calm_channel.specs.Calm.{delay_of_line, transit}

@@ -11,7 +11,7 @@ use Rattle.line_world.specs.Journals.{AreFirst, ArePair}
 use Rattle.line_world.specs.Occasions.{Moment, Occasion}
 use Rattle.line_world.specs.Occasions.Occasion.{arrival, departure, sampling, slot}
 use Rattle.line_world.specs.Run.{run_through}
-use Rattle.line_world.specs.StationLog.{StationLog}
+use Rattle.relay_core.specs.StationLog.{StationLog}
 use Rattle.line_world.specs.World.{stamp_of}
 use Rattle.line_world.specs.Worlds.{World}
 use Rattle.calm_channel.specs.Calm.{delay_of_line, run_below, transit}

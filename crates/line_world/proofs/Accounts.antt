@@ -8,8 +8,8 @@ use Rattle.pingpong.specs.declared.journal.Entry.{Entry}
 use Rattle.relay_core.specs.Answers.{changes_by, judged_by, judgement}
 use Rattle.relay_core.specs.Decided.{JudgedSets, Offers, offered_by}
 use Rattle.relay_core.specs.Line.{bits_from}
-use Rattle.relay_core.specs.Log.{Call}
-use Rattle.relay_core.specs.Log.Call.{faults, sends}
+use Rattle.relay_core.specs.declared.call.Call.{Call}
+use Rattle.relay_core.specs.declared.call.Call.TheVariants as made
 use Rattle.relay_core.proofs.Calls.{added-none}
 use Rattle.relay_core.specs.Sent.{Slots, slot_by}
 use Rattle.relay_core.specs.declared.answers.Change.{Change}
@@ -22,7 +22,7 @@ use Rattle.line_world.specs.Books.{IsEmpty}
 use Rattle.line_world.specs.Crossings.{Forged, accepted_with, arrivals_of, begun_with}
 use Rattle.line_world.specs.Ledger.{Ledger}
 use Rattle.line_world.specs.Report.{Lines, alarm_line, decisions, estimates, set_line, station_of}
-use Rattle.line_world.specs.StationLog.{StationLog}
+use Rattle.relay_core.specs.StationLog.{StationLog}
 use Rattle.line_world.specs.Told.{more}
 use Rattle.line_world.specs.declared.crossing.Arrival.{Arrival}
 use Rattle.line_world.specs.declared.line.Line.{Line}
@@ -94,13 +94,13 @@ judged-none : (f : Fields) (me : ℕ) (log : List Call) (call : Call) → Offers
 judged-none f me log call same =
     ap (map (judgement f (JudgedSets f me (log ++ call ∷ [])))) (added-none (JudgedSets f me) log (call ∷ []) (ap (JudgedSet f me) same))
 
-pub judged-faults : (f : Fields) (me : ℕ) (log : List Call) (at peer : ℕ) → judged_by f me log (faults at peer) ≡ []
+pub judged-faults : (f : Fields) (me : ℕ) (log : List Call) (at peer : ℕ) → judged_by f me log (made.Fault at peer) ≡ []
 judged-faults f me log at peer =
-    judged-none f me log (faults at peer) (along-push (λ before offers call. offered_by f me before call) log (faults at peer) ∙ append-nil (Offers f me log))
+    judged-none f me log (made.Fault at peer) (along-push (λ before offers call. offered_by f me before call) log (made.Fault at peer) ∙ append-nil (Offers f me log))
 
-pub judged-sends : (f : Fields) (me : ℕ) (log : List Call) (at : ℕ) → judged_by f me log (sends at) ≡ []
+pub judged-sends : (f : Fields) (me : ℕ) (log : List Call) (at : ℕ) → judged_by f me log (made.Slot at) ≡ []
 judged-sends f me log at =
-    judged-none f me log (sends at) (along-push (λ before offers call. offered_by f me before call) log (sends at) ∙ append-nil (Offers f me log))
+    judged-none f me log (made.Slot at) (along-push (λ before offers call. offered_by f me before call) log (made.Slot at) ∙ append-nil (Offers f me log))
 
 -- before the first entry nothing is told and nothing is known of a line
 pub Lines-none : (f : Fields) → Lines f [] ≡ []

@@ -11,7 +11,8 @@ use Rattle.ld_base.specs.declared.fields.Fields.{Fields}
 use Rattle.pingpong.specs.declared.journal.Entry.{Entry}
 use Rattle.relay_message.specs.Messages.{added}
 use Rattle.relay_core.specs.Answers.{outgo_by, outgo_of}
-use Rattle.relay_core.specs.Log.{Call, peers}
+use Rattle.relay_core.specs.Log.{peers}
+use Rattle.relay_core.specs.declared.call.Call.{Call}
 use Rattle.relay_core.specs.Sent.{Begun}
 use Rattle.relay_core.specs.declared.answers.Outgoing.{Outgoing}
 use Rattle.ld_base.proofs.Accepted.{AreInRange-from_no_fault}
@@ -20,7 +21,7 @@ use Rattle.line_world.specs.Books.{way_of}
 use Rattle.line_world.specs.Crossings.{Arrivals, accepted_with, begun_with}
 use Rattle.line_world.specs.Ledger.{Ledger}
 use Rattle.line_world.specs.Occasions.{ways}
-use Rattle.line_world.specs.StationLog.{StationLog}
+use Rattle.relay_core.specs.StationLog.{StationLog}
 use Rattle.line_world.specs.Told.{begun_to, last_on, with_begun, with_slot}
 use Rattle.line_world.specs.declared.crossing.Arrival.{Arrival}
 use Rattle.line_world.proofs.Entries.{Hands}

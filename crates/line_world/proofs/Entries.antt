@@ -10,14 +10,14 @@ use Rattle.ld_base.specs.declared.phases.Phases.{Phases}
 use Rattle.pingpong.specs.declared.journal.Entry.{Entry}
 use Rattle.pingpong.specs.declared.journal.What.TheVariants.{Came, SendFailed, Slot, TakeFailed, Took}
 use Rattle.relay_core.specs.Answers.{changes_by, judged_by}
-use Rattle.relay_core.specs.Log.{Call}
-use Rattle.relay_core.specs.Log.Call.{faults, hears, samples, sends}
+use Rattle.relay_core.specs.declared.call.Call.{Call}
+use Rattle.relay_core.specs.declared.call.Call.TheVariants as made
 use Rattle.relay_core.specs.declared.answers.Change.{Change}
 use Rattle.relay_core.specs.declared.answers.Judged.{Judged}
 use Rattle.sample_store.proofs.Alongs.{along-push}
 use Rattle.line_world.specs.Book.{entry_at}
 use Rattle.line_world.specs.Report.{Lines, alarm_line, decisions, lines_of, set_line, station_of}
-use Rattle.line_world.specs.StationLog.{StationLog, calls_by, stamp_at}
+use Rattle.relay_core.specs.StationLog.{StationLog, calls_by, stamp_at}
 use Rattle.line_world.specs.declared.line.Line.{Line}
 use Rattle.line_world.specs.declared.now.Now.{Now}
 
@@ -37,20 +37,20 @@ here me calls = ap (λ b. cond b calls []) (eq-eqb me me refl)
 elsewhere : (me k : ℕ) (calls : List Call) → k ≢ me → cond (me == k) calls [] ≡ []
 elsewhere me k calls differ = ap (λ b. cond b calls []) (ne_eqb me k (λ same. differ (sym same)))
 
-pub Hands-took : (now : Now) (me : ℕ) (values : Phases) → Hands (entry_at now (Took me values)) me (samples (stamp_at me (entry_at now (Took me values))) values)
+pub Hands-took : (now : Now) (me : ℕ) (values : Phases) → Hands (entry_at now (Took me values)) me (made.Sample (stamp_at me (entry_at now (Took me values))) values)
 Hands-took now me values = record { here = here me _; elsewhere = λ k differ. elsewhere me k _ differ; station = refl }
 
 pub Hands-slot : (now : Now) (me : ℕ) (first : List ℕ) (second : Option (List ℕ))
-    → Hands (entry_at now (Slot me first second)) me (sends (stamp_at me (entry_at now (Slot me first second))))
+    → Hands (entry_at now (Slot me first second)) me (made.Slot (stamp_at me (entry_at now (Slot me first second))))
 Hands-slot now me first second = record { here = here me _; elsewhere = λ k differ. elsewhere me k _ differ; station = refl }
 
-pub Hands-came : (now : Now) (me peer : ℕ) (bits : List ℕ) → Hands (entry_at now (Came me peer bits)) me (hears (stamp_at me (entry_at now (Came me peer bits))) peer bits)
+pub Hands-came : (now : Now) (me peer : ℕ) (bits : List ℕ) → Hands (entry_at now (Came me peer bits)) me (made.Bits (stamp_at me (entry_at now (Came me peer bits))) peer bits)
 Hands-came now me peer bits = record { here = here me _; elsewhere = λ k differ. elsewhere me k _ differ; station = refl }
 
-pub Hands-take_failed : (now : Now) (me peer : ℕ) → Hands (entry_at now (TakeFailed me peer)) me (faults (stamp_at me (entry_at now (TakeFailed me peer))) peer)
+pub Hands-take_failed : (now : Now) (me peer : ℕ) → Hands (entry_at now (TakeFailed me peer)) me (made.Fault (stamp_at me (entry_at now (TakeFailed me peer))) peer)
 Hands-take_failed now me peer = record { here = here me _; elsewhere = λ k differ. elsewhere me k _ differ; station = refl }
 
-pub Hands-send_failed : (now : Now) (me peer : ℕ) → Hands (entry_at now (SendFailed me peer)) me (faults (stamp_at me (entry_at now (SendFailed me peer))) peer)
+pub Hands-send_failed : (now : Now) (me peer : ℕ) → Hands (entry_at now (SendFailed me peer)) me (made.Fault (stamp_at me (entry_at now (SendFailed me peer))) peer)
 Hands-send_failed now me peer = record { here = here me _; elsewhere = λ k differ. elsewhere me k _ differ; station = refl }
 
 -- the log of the station has the call, and the others are as they were

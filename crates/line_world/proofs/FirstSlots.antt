@@ -12,15 +12,15 @@ use Rattle.ld_base.specs.declared.phases.Phases.{Phases}
 use Rattle.pingpong.specs.declared.journal.Entry.{Entry}
 use Rattle.pingpong.specs.declared.journal.What.{What}
 use Rattle.pingpong.specs.declared.journal.What.TheVariants.{Came, SendFailed, Slot, TakeFailed, Took}
-use Rattle.relay_core.specs.Log.{Call}
-use Rattle.relay_core.specs.Log.Call.{faults, hears, sends}
+use Rattle.relay_core.specs.declared.call.Call.{Call}
+use Rattle.relay_core.specs.declared.call.Call.TheVariants as made
 use Rattle.relay_core.specs.Sent.{Slots}
 use Rattle.waveform_reader.specs.Scenario.{Setup}
 use Rattle.waveform_reader.specs.Sound.{IsStation}
 use Rattle.line_world.specs.Journals.{AreFirst}
 use Rattle.line_world.specs.Occasions.{Moment, Occasion, arrivals, at_tick, moments, moments_at, samplings, slot_of, slots}
 use Rattle.line_world.specs.Occasions.Occasion.{arrival, departure, sampling, slot}
-use Rattle.line_world.specs.StationLog.{StationLog, calls_by, calls_of, stamp_at}
+use Rattle.relay_core.specs.StationLog.{StationLog, calls_by, calls_of, stamp_at}
 use Rattle.line_world.specs.World.{Event, Leads, Outcome, entries_of, entry_of, frames_at, happens, journal_with, number_of, slot_with}
 use Rattle.line_world.specs.World.Outcome.{fails, gives, nothing}
 use Rattle.line_world.proofs.Quiets.{StartsIdle, StartsIdle-first, StartsIdle-more, StartsIdle-slot, IsIdle, IsQuiet, first-idle}
@@ -77,10 +77,10 @@ if_quiet false call quiet = All-nil IsQuiet
 -- what happens at tick 0 hands in no sample
 calls-quiet : (me at : ℕ) (what : What) → ((station : ℕ) (values : Phases) → what ≡ Took station values → ⊥) → All IsQuiet (calls_of me at what)
 calls-quiet me at (Took station values) other = absurd (other station values refl)
-calls-quiet me at (Slot station first second) other = if_quiet (station == me) (sends at) tt
-calls-quiet me at (Came station peer bits) other = if_quiet (station == me) (hears at peer bits) tt
-calls-quiet me at (SendFailed station peer) other = if_quiet (station == me) (faults at peer) tt
-calls-quiet me at (TakeFailed station peer) other = if_quiet (station == me) (faults at peer) tt
+calls-quiet me at (Slot station first second) other = if_quiet (station == me) (made.Slot at) tt
+calls-quiet me at (Came station peer bits) other = if_quiet (station == me) (made.Bits at peer bits) tt
+calls-quiet me at (SendFailed station peer) other = if_quiet (station == me) (made.Fault at peer) tt
+calls-quiet me at (TakeFailed station peer) other = if_quiet (station == me) (made.Fault at peer) tt
 
 module _ (s : Setup) (me : ℕ) where
   one-quiet : (what : What) → ((station : ℕ) (values : Phases) → what ≡ Took station values → ⊥) → All IsQuiet (StationLog me (entry_of s 0 what ∷ []))
@@ -103,13 +103,13 @@ module _ (s : Setup) (me : ℕ) where
 
   -- and a station's slot is a call to send
   slot-log : (before : List Entry) (time : ℕ) (o : Occasion) (outcome : Outcome) → o ≡ slot me
-      → (at : ℕ) × (StationLog me (map (entry_of s time) (happens s before time o outcome)) ≡ sends at ∷ [])
+      → (at : ℕ) × (StationLog me (map (entry_of s time) (happens s before time o outcome)) ≡ made.Slot at ∷ [])
   slot-log before time o outcome is = subst IsSlot (sym is) (stamp_at me (entry_of s time (slot_with me (frames_at s before time me))), itself)
     where
       IsSlot : Occasion → Type 0
-      IsSlot o = (at : ℕ) × (StationLog me (map (entry_of s time) (happens s before time o outcome)) ≡ sends at ∷ [])
+      IsSlot o = (at : ℕ) × (StationLog me (map (entry_of s time) (happens s before time o outcome)) ≡ made.Slot at ∷ [])
 
-      itself : StationLog me (map (entry_of s time) (happens s before time (slot me) outcome)) ≡ sends (stamp_at me (entry_of s time (slot_with me (frames_at s before time me)))) ∷ []
+      itself : StationLog me (map (entry_of s time) (happens s before time (slot me) outcome)) ≡ made.Slot (stamp_at me (entry_of s time (slot_with me (frames_at s before time me)))) ∷ []
       itself = let same : (me == me) ≡ true = grind (arith, nat_tests) in rw same refl
 
 -- an occasion is a station's slot, or it isn't

@@ -15,7 +15,8 @@ use Rattle.pingpong.specs.declared.journal.What.{What}
 use Rattle.pingpong.specs.declared.journal.What.TheVariants.{Came, SendFailed, Slot, TakeFailed, Took}
 use Rattle.relay_core.specs.Accepted.{Accepted, Completed, Exchanges, InForceWith, accepted_among, accepted_of, completed_by}
 use Rattle.relay_core.specs.Decided.{accepted_by}
-use Rattle.relay_core.specs.Log.{Call, now}
+use Rattle.relay_core.specs.Log.{now}
+use Rattle.relay_core.specs.declared.call.Call.{Call}
 use Rattle.relay_core.specs.declared.receipt.Receipt.{Receipt}
 use Rattle.relay_core.proofs.Accepting.{Exchanges-push}
 use Rattle.relay_core.proofs.Calls.{Completed-push, added-is}
@@ -24,7 +25,7 @@ use Rattle.sample_store.proofs.Alongs.{along-both, along-push}
 use Rattle.line_world.specs.Crossings.{Crossings, accepted_with, crossing_by}
 use Rattle.line_world.specs.Ledger.{is_same_exchange}
 use Rattle.line_world.specs.Report.{crossing_in_force}
-use Rattle.line_world.specs.StationLog.{StationLog, calls_by, calls_of, stamp_at}
+use Rattle.relay_core.specs.StationLog.{StationLog, calls_by, calls_of, stamp_at}
 use Rattle.line_world.specs.declared.crossing.Crossing.{Crossing}
 use Rattle.line_world.proofs.Entries.{StationLog-push}
 

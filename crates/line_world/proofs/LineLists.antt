@@ -18,7 +18,7 @@ use Rattle.relay_message.specs.Messages.{added}
 use Rattle.relay_core.specs.Decided.{accepted_by}
 use Rattle.relay_core.specs.Accepted.{Accepted}
 use Rattle.relay_core.specs.Line.{bits_from}
-use Rattle.relay_core.specs.Log.{Call}
+use Rattle.relay_core.specs.declared.call.Call.{Call}
 use Rattle.relay_core.specs.Sent.{Begun, Slots, begun_in, slot_by}
 use Rattle.relay_core.proofs.Accepting.{Accepted-same}
 use Rattle.relay_core.proofs.Calls.{Slots-push, added-none}
@@ -28,7 +28,7 @@ use Rattle.sample_store.proofs.Alongs.{along-both, along-push}
 use Rattle.line_world.specs.Book.{IsLedger}
 use Rattle.line_world.specs.Crossings.{Arrivals, Beginnings, Crossings, Start, Starts, accepted_with, arrivals_with, beginnings_with, begun_with, crossing_by, is_same, legs_from, slot_time}
 use Rattle.line_world.specs.Ledger.{Ledger}
-use Rattle.line_world.specs.StationLog.{StationLog, calls_by}
+use Rattle.relay_core.specs.StationLog.{StationLog, calls_by}
 use Rattle.line_world.specs.Told.{arrival_on, beginning_of, with_accepted, with_begun, with_kept}
 use Rattle.line_world.specs.declared.crossing.Arrival.{Arrival}
 use Rattle.line_world.specs.declared.crossing.Beginning.{Beginning}

@@ -11,8 +11,9 @@ use Rattle.sample_store.specs.Offers.{Offer, Own, Value, Taken, taken_by}
 use Rattle.sample_store.specs.declared.ring.Numbered.{Numbered}
 use Rattle.relay_core.specs.Accepted.{Accepted, InForceWith, last_of}
 use Rattle.relay_core.specs.Decided.{Newest, Offers, accepted_by, offered_by, values_of}
-use Rattle.relay_core.specs.Log.{Call, now}
-use Rattle.relay_core.specs.Log.Call.{faults, hears, samples, sends}
+use Rattle.relay_core.specs.Log.{now}
+use Rattle.relay_core.specs.declared.call.Call.{Call}
+use Rattle.relay_core.specs.declared.call.Call.TheVariants as made
 use Rattle.relay_core.specs.Sent.{Slots, begins, echo_of, message_of, slot_by}
 use Rattle.relay_core.specs.declared.receipt.Receipt.{Receipt}
 use Rattle.relay_core.proofs.Calls.{Slots-push}
@@ -20,10 +21,10 @@ use Rattle.relay_core.proofs.Lists.{All-end, All-flat_map, All-front, along-all}
 
 -- a call that hands in no sample
 abbrev pub IsQuiet : Call → Type 0
-IsQuiet (samples at values) = ⊥
-IsQuiet (sends at) = Unit {0}
-IsQuiet (hears at peer bits) = Unit {0}
-IsQuiet (faults at peer) = Unit {0}
+IsQuiet (made.Sample at values) = ⊥
+IsQuiet (made.Slot at) = Unit {0}
+IsQuiet (made.Bits at peer bits) = Unit {0}
+IsQuiet (made.Fault at peer) = Unit {0}
 
 -- an offer of no own sample
 abbrev IsPeers : Offer → Type 0
@@ -40,14 +41,14 @@ nothing_there (x ∷ xs) all = absurd (all 0 x (omega arith))
 
 -- without samples no own value is offered, and none is taken
 offered-quiet : (f : Fields) (me : ℕ) (before : List Call) (call : Call) → IsQuiet call → All IsPeers (offered_by f me before call)
-offered-quiet f me before (samples at values) quiet = absurd quiet
-offered-quiet f me before (sends at) quiet = All-nil IsPeers
-offered-quiet f me before (hears at peer bits) quiet =
-    let call = hears at peer bits in
+offered-quiet f me before (made.Sample at values) quiet = absurd quiet
+offered-quiet f me before (made.Slot at) quiet = All-nil IsPeers
+offered-quiet f me before (made.Bits at peer bits) quiet =
+    let call = made.Bits at peer bits in
     let exchanges : List Stamps = option_to_list (InForceWith f me peer (before ++ call ∷ [])) in
     All-flat_map IsPeers (λ r. map (values_of peer r) exchanges) (accepted_by f me peer before call)
     (λ (r : Receipt). All-map IsPeers (values_of peer r) exchanges (λ k d inside. tt))
-offered-quiet f me before (faults at peer) quiet = All-nil IsPeers
+offered-quiet f me before (made.Fault at peer) quiet = All-nil IsPeers
 
 offers-quiet : (f : Fields) (me : ℕ) (log : List Call) → All IsQuiet log → All IsPeers (Offers f me log)
 offers-quiet f me log all =
@@ -68,14 +69,14 @@ newest-none f me log all =
 -- so no message begins
 slot-idle : (f : Fields) (me peer : ℕ) (before : List Call) (slots : List (Slot Contents)) (call : Call) → All IsQuiet before
     → All IsIdle (slot_by f me peer before slots call)
-slot-idle f me peer before slots (samples at values) quiet = All-nil IsIdle
-slot-idle f me peer before slots (sends at) quiet =
+slot-idle f me peer before slots (made.Sample at values) quiet = All-nil IsIdle
+slot-idle f me peer before slots (made.Slot at) quiet =
     All-cons IsIdle _ []
-    (ap (λ (sample : Option Numbered). begins f.channels slots (option_map (message_of me peer (now (before ++ sends at ∷ [])) (echo_of (last_of (Accepted f me peer before)))) sample))
+    (ap (λ (sample : Option Numbered). begins f.channels slots (option_map (message_of me peer (now (before ++ made.Slot at ∷ [])) (echo_of (last_of (Accepted f me peer before)))) sample))
     (newest-none f me before quiet))
     (All-nil IsIdle)
-slot-idle f me peer before slots (hears at from bits) quiet = All-nil IsIdle
-slot-idle f me peer before slots (faults at from) quiet = All-nil IsIdle
+slot-idle f me peer before slots (made.Bits at from bits) quiet = All-nil IsIdle
+slot-idle f me peer before slots (made.Fault at from) quiet = All-nil IsIdle
 
 slots-idle : (f : Fields) (me peer : ℕ) (log : List Call) → All IsQuiet log → All IsIdle (Slots f me peer log)
 slots-idle f me peer log all =
@@ -108,10 +109,10 @@ first_of : (slots : List (Slot Contents)) (slot : Slot Contents) → All IsIdle 
 first_of [] slot all = (slot, [], refl, All-head IsIdle slot [] all)
 first_of (x ∷ slots) slot all = (x, slots ++ slot ∷ [], refl, All-head IsIdle x (slots ++ slot ∷ []) all)
 
-pub StartsIdle-slot : (f : Fields) (me peer : ℕ) (log : List Call) (at : ℕ) → All IsQuiet log → StartsIdle f me peer (log ++ sends at ∷ [])
+pub StartsIdle-slot : (f : Fields) (me peer : ℕ) (log : List Call) (at : ℕ) → All IsQuiet log → StartsIdle f me peer (log ++ made.Slot at ∷ [])
 StartsIdle-slot f me peer log at quiet =
-    let all = slots-idle f me peer (log ++ sends at ∷ []) (All-append IsQuiet log (sends at ∷ []) quiet (All-cons IsQuiet (sends at) [] tt (All-nil IsQuiet))) in
-    let same = Slots-push f me peer log (sends at) in
+    let all = slots-idle f me peer (log ++ made.Slot at ∷ []) (All-append IsQuiet log (made.Slot at ∷ []) quiet (All-cons IsQuiet (made.Slot at) [] tt (All-nil IsQuiet))) in
+    let same = Slots-push f me peer log (made.Slot at) in
     let found = first_of (Slots f me peer log) _ (subst (All IsIdle) same all) in
     record { first = found.0; others = found.1; are = same ∙ found.2; idle = found.3 }
 

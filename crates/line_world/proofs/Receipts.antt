@@ -18,8 +18,9 @@ use Rattle.relay_core.specs.Answers.{news_in, news_of, taken_by, taken_of}
 use Rattle.relay_core.specs.Decided.{accepted_by}
 use Rattle.relay_core.specs.Follows.{exchanges_in, receipts_in}
 use Rattle.relay_core.specs.Line.{Messages}
-use Rattle.relay_core.specs.Log.{Call, now}
-use Rattle.relay_core.specs.Log.Call.{hears}
+use Rattle.relay_core.specs.Log.{now}
+use Rattle.relay_core.specs.declared.call.Call.{Call}
+use Rattle.relay_core.specs.declared.call.Call.TheVariants as made
 use Rattle.relay_core.specs.declared.answers.Heard.{Heard}
 use Rattle.relay_core.specs.declared.answers.News.{News}
 use Rattle.relay_core.specs.declared.answers.News.TheVariants as news
@@ -27,13 +28,14 @@ use Rattle.relay_core.specs.declared.receipt.Receipt.{Receipt}
 use Rattle.relay_core.proofs.Accepting.{Exchanges-push}
 use Rattle.relay_core.proofs.Calls.{added-is}
 use Rattle.relay_core.proofs.Hearing.{Accepted-news, exchanges-receipts}
-use Rattle.line_world.specs.Book.{IsHeard, IsLedger}
+use Rattle.relay_core.specs.IsAnswer.{IsHeard}
+use Rattle.line_world.specs.Book.{IsLedger}
 use Rattle.line_world.specs.Books.{way_of}
 use Rattle.line_world.specs.Crossings.{Crossings, accepted_with, arrivals_with}
 use Rattle.line_world.specs.Ledger.{Ledger}
 use Rattle.line_world.specs.Occasions.{Way}
 use Rattle.line_world.specs.Report.{crossing_in_force, est_line, estimates}
-use Rattle.line_world.specs.StationLog.{StationLog}
+use Rattle.relay_core.specs.StationLog.{StationLog}
 use Rattle.line_world.specs.Told.{accepted_in, arrival_on, crossing_told, with_accepted}
 use Rattle.line_world.specs.Totals.{took_too_long}
 use Rattle.line_world.proofs.Accounts.{begun-none}
@@ -130,33 +132,33 @@ pub same-way : (from other to target : ℕ) → from ≡ other → to ≡ target
 same-way from other to target one two = cc
 
 module _ (f : Fields) (journal : List Entry) (entry : Entry) (me peer at : ℕ) (bits : List ℕ) (heard : Heard)
-    (hands : Hands entry me (hears at peer bits)) (is : IsHeard f me peer (StationLog me journal) (hears at peer bits) heard) where
+    (hands : Hands entry me (made.Bits at peer bits)) (is : IsHeard f me peer (StationLog me journal) (made.Bits at peer bits) heard) where
   abbrev time : ℕ
-  time = now (StationLog me journal ++ hears at peer bits ∷ [])
+  time = now (StationLog me journal ++ made.Bits at peer bits ∷ [])
 
   accepted-are : (l : Ledger) → l.from ≡ peer → l.to ≡ me
       → accepted_with f l.to l.from journal entry ≡ option_to_list (option_map (λ x. record { message = x; at = time }) (accepted_in heard.news))
   accepted-are l from to =
       ap (λ t. accepted_with f t l.from journal entry) to ∙ ap (λ p. accepted_with f me p journal entry) from
-      ∙ accepted-here f me peer journal entry (hears at peer bits) hands ∙ receipts f me peer (StationLog me journal) (hears at peer bits) heard is
+      ∙ accepted-here f me peer journal entry (made.Bits at peer bits) hands ∙ receipts f me peer (StationLog me journal) (made.Bits at peer bits) heard is
 
   -- the ledger of the line
   pub ledger-heard : (l : Ledger) → IsLedger f journal l → l.from ≡ peer → l.to ≡ me
       → IsLedger f (journal ++ entry ∷ []) (with_accepted entry.time time heard.taken (accepted_in heard.news) l)
   ledger-heard l of_line from to =
       IsLedger-accepted f journal entry l of_line time heard.taken (accepted_in heard.news)
-      (begun-none f journal entry me (hears at peer bits) hands (λ p. refl) l.from l.to) (accepted-are l from to)
-      (taken-is f me peer (StationLog me journal) (hears at peer bits) heard is)
+      (begun-none f journal entry me (made.Bits at peer bits) hands (λ p. refl) l.from l.to) (accepted-are l from to)
+      (taken-is f me peer (StationLog me journal) (made.Bits at peer bits) heard is)
 
   -- and of another line
   pub ledger-other : (l : Ledger) → IsLedger f journal l → (way_of l ≡ record { from = peer; to = me } → ⊥) → IsLedger f (journal ++ entry ∷ []) l
   ledger-other l of_line other =
-      IsLedger-quiet f journal entry l of_line (begun-none f journal entry me (hears at peer bits) hands (λ p. refl) l.from l.to) (elim (cases_eq l.to me) [
+      IsLedger-quiet f journal entry l of_line (begun-none f journal entry me (made.Bits at peer bits) hands (λ p. refl) l.from l.to) (elim (cases_eq l.to me) [
         | inl here ↦
             let away : peer ≢ l.from = λ same. other (same-way l.from peer l.to me (sym same) here) in
             ap (λ t. accepted_with f t l.from journal entry) here
-            ∙ accepted-here f me l.from journal entry (hears at peer bits) hands
-            ∙ accepted-silent f me l.from (StationLog me journal) (hears at peer bits) (ap (λ b. cond b bits []) (ne_eqb peer l.from away))
+            ∙ accepted-here f me l.from journal entry (made.Bits at peer bits) hands
+            ∙ accepted-silent f me l.from (StationLog me journal) (made.Bits at peer bits) (ap (λ b. cond b bits []) (ne_eqb peer l.from away))
         | inr there ↦ accepted-elsewhere f l.to l.from journal entry (hands.elsewhere l.to there)
       ])
 
@@ -174,15 +176,15 @@ module _ (f : Fields) (journal : List Entry) (entry : Entry) (me peer at : ℕ) 
       (of_line.crossings
       ∙ ap (λ t. in_force.kept (λ c. c.exchange) f.slow (Crossings f t l.from (journal ++ entry ∷ []))) to
       ∙ ap (λ p. in_force.kept (λ c. c.exchange) f.slow (Crossings f me p (journal ++ entry ∷ []))) from)
-      (chosen-is f me peer (StationLog me journal) (hears at peer bits) heard is kept
-      ∙ ap (InForceWith f me peer) (sym (StationLog-here journal entry me (hears at peer bits) hands)))
+      (chosen-is f me peer (StationLog me journal) (made.Bits at peer bits) heard is kept
+      ∙ ap (InForceWith f me peer) (sym (StationLog-here journal entry me (made.Bits at peer bits) hands)))
 
   -- the estimate
   pub estimates-heard : (l : Ledger) → IsLedger f (journal ++ entry ∷ []) l → l.from ≡ peer → l.to ≡ me
       → estimates f journal entry (Came me peer bits) ≡ map (est_line f me peer entry) (option_to_list (crossing_told l heard.taken heard.chosen))
   estimates-heard l of_line from to =
       ap (λ b. cond b (map (est_line f me peer entry) (option_to_list (crossing_in_force f me peer (journal ++ entry ∷ [])))) [])
-      (ap (list_any (λ t. not (took_too_long t))) (told-here (taken_by f me peer (StationLog me journal)) entry me (hears at peer bits) hands ∙ is.taken))
+      (ap (list_any (λ t. not (took_too_long t))) (told-here (taken_by f me peer (StationLog me journal)) entry me (made.Bits at peer bits) hands ∙ is.taken))
       ∙ go heard.taken refl
     where
       go : (t : Option Taken) → heard.taken ≡ t

@@ -11,8 +11,9 @@ use Rattle.ld_base.specs.declared.fields.Fields.{Fields}
 use Rattle.payload_map.specs.Sent.{Slot}
 use Rattle.pingpong.specs.declared.journal.Entry.{Entry}
 use Rattle.relay_message.specs.Messages.{added}
-use Rattle.relay_core.specs.Log.{Call, now}
-use Rattle.relay_core.specs.Log.Call.{faults, hears, samples, sends}
+use Rattle.relay_core.specs.Log.{now}
+use Rattle.relay_core.specs.declared.call.Call.{Call}
+use Rattle.relay_core.specs.declared.call.Call.TheVariants as made
 use Rattle.relay_core.specs.Sent.{Begun, Slots, begins, begun_in, is_free, number_behind, ready, slot_by}
 use Rattle.relay_core.proofs.Calls.{Slots-push, added-is}
 use Rattle.relay_core.proofs.Lists.{map-mapped}
@@ -21,7 +22,7 @@ use Rattle.sample_store.specs.Along.{along_from}
 use Rattle.sample_store.proofs.Alongs.{along-both}
 use Rattle.line_world.specs.Crossings.{Beginnings, beginnings_with, begun_with}
 use Rattle.line_world.specs.Ledger.{AreRising}
-use Rattle.line_world.specs.StationLog.{StationLog, calls_by}
+use Rattle.relay_core.specs.StationLog.{StationLog, calls_by}
 use Rattle.line_world.specs.declared.crossing.Beginning.{Beginning}
 use Rattle.line_world.proofs.Entries.{StationLog-push}
 
@@ -55,11 +56,11 @@ AreUp-begins channels slots (Some m) up = go (is_free channels slots) (nat_le (n
 
 AreUp-slot : (f : Fields) (me peer : ℕ) (before : List Call) (slots : List (Slot Contents)) (call : Call) → AreUp (begun_in slots)
     → AreUp (begun_in (slots ++ slot_by f me peer before slots call))
-AreUp-slot f me peer before slots (samples at values) up = subst (λ all. AreUp (begun_in all)) (sym (append-nil slots)) up
-AreUp-slot f me peer before slots (sends at) up =
-    subst AreUp (sym (begun_in-more slots _)) (AreUp-begins f.channels slots (ready f me peer before (now (before ++ sends at ∷ []))) up)
-AreUp-slot f me peer before slots (hears at from bits) up = subst (λ all. AreUp (begun_in all)) (sym (append-nil slots)) up
-AreUp-slot f me peer before slots (faults at from) up = subst (λ all. AreUp (begun_in all)) (sym (append-nil slots)) up
+AreUp-slot f me peer before slots (made.Sample at values) up = subst (λ all. AreUp (begun_in all)) (sym (append-nil slots)) up
+AreUp-slot f me peer before slots (made.Slot at) up =
+    subst AreUp (sym (begun_in-more slots _)) (AreUp-begins f.channels slots (ready f me peer before (now (before ++ made.Slot at ∷ []))) up)
+AreUp-slot f me peer before slots (made.Bits at from bits) up = subst (λ all. AreUp (begun_in all)) (sym (append-nil slots)) up
+AreUp-slot f me peer before slots (made.Fault at from) up = subst (λ all. AreUp (begun_in all)) (sym (append-nil slots)) up
 
 Begun-up : (f : Fields) (me peer : ℕ) (log : List Call) → AreUp (Begun f me peer log)
 Begun-up f me peer log =

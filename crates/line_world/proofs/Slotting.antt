@@ -22,8 +22,9 @@ use Rattle.pingpong.specs.declared.journal.Entry.{Entry}
 use Rattle.pingpong.specs.declared.journal.What.TheVariants.{Slot}
 use Rattle.relay_core.proofs.Calls.{Slots-push}
 use Rattle.relay_core.specs.Answers.{Outgo, outgo_by, outgo_of}
-use Rattle.relay_core.specs.Log.{Call, is_peer, peers}
-use Rattle.relay_core.specs.Log.Call.{faults, sends}
+use Rattle.relay_core.specs.Log.{is_peer, peers}
+use Rattle.relay_core.specs.declared.call.Call.{Call}
+use Rattle.relay_core.specs.declared.call.Call.TheVariants as made
 use Rattle.relay_core.specs.Sent.{Sent, Slots, frames_sent}
 use Rattle.relay_core.specs.StandsFor.{Kept, StandsFor}
 use Rattle.relay_core.specs.declared.answers.Outgoing.{Outgoing}
@@ -31,7 +32,7 @@ use Rattle.relay_message.specs.Messages.{added}
 use Rattle.waveform_reader.specs.Scenario.{Setup}
 use Rattle.line_world.specs.Run.{newest_frame}
 use Rattle.line_world.specs.Stationed.{IsTerminal}
-use Rattle.line_world.specs.StationLog.{StationLog}
+use Rattle.relay_core.specs.StationLog.{StationLog}
 use Rattle.line_world.specs.World.{frames_at, slot_with, stamp_of}
 use Rattle.line_world.proofs.Stationing.{IsCallOf, log-elsewhere, log-here}
 
@@ -56,19 +57,19 @@ slot-of station (o ∷ p ∷ os) first bytes second some is_first is_bytes is_se
     ∙ ap (Slot station (line_bytes 32 (bits_of o.bytes))) is_second
 
 -- a failed call adds no slot
-Slots-fault : (f : Fields) (me peer at other : ℕ) (log : List Call) → Slots f me peer (log ++ faults at other ∷ []) ≡ Slots f me peer log
-Slots-fault f me peer at other log = Slots-push f me peer log (faults at other) ∙ append-nil (Slots f me peer log)
+Slots-fault : (f : Fields) (me peer at other : ℕ) (log : List Call) → Slots f me peer (log ++ made.Fault at other ∷ []) ≡ Slots f me peer log
+Slots-fault f me peer at other log = Slots-push f me peer log (made.Fault at other) ∙ append-nil (Slots f me peer log)
 
 -- so the newest frame of every line is what it was
-pub newest-fault : (station at other : ℕ) (entry : Entry) (journal : List Entry) → IsCallOf station (faults at other) entry
+pub newest-fault : (station at other : ℕ) (entry : Entry) (journal : List Entry) → IsCallOf station (made.Fault at other) entry
     → (f : Fields) (from to : ℕ) → newest_frame f from to (journal ++ entry ∷ []) ≡ newest_frame f from to journal
 newest-fault station at other entry journal is f from to =
     ap (λ (slots : List (payload.Slot Contents)). unwrap_or (slice_get (reverse (frames_sent f slots)) 0) [])
     (elim (cases_eq from station) [
       | inl same ↦
           subst (λ (me : ℕ). Slots f me to (StationLog me (journal ++ entry ∷ [])) ≡ Slots f me to (StationLog me journal)) (sym same)
-          (ap (Slots f station to) (log-here station (faults at other) entry journal is) ∙ Slots-fault f station to at other (StationLog station journal))
-      | inr away ↦ ap (Slots f from to) (log-elsewhere station from (faults at other) entry journal is away)
+          (ap (Slots f station to) (log-here station (made.Fault at other) entry journal is) ∙ Slots-fault f station to at other (StationLog station journal))
+      | inr away ↦ ap (Slots f from to) (log-elsewhere station from (made.Fault at other) entry journal is away)
     ])
 
 -- a station of a line has a peer: the first station, or else the second
@@ -126,8 +127,8 @@ newest-added f from to call entry journal bits is added_is =
 
 -- so its slot has the frames that the log before gives
 pub frames-of : (s : Setup) (before : List Entry) (time station stamp : ℕ) (outs : List Outgoing) → stamp ≡ stamp_of s station time
-    → map outgo_of outs ≡ map (outgo_by s.settings station (StationLog station before) (sends stamp)) (peers s.settings station)
+    → map outgo_of outs ≡ map (outgo_by s.settings station (StationLog station before) (made.Slot stamp)) (peers s.settings station)
     → map (λ (o : Outgoing). bits_of o.bytes) outs ≡ frames_at s before time station
 frames-of s before time station stamp outs stamped is =
-    sym (sent-bits s.settings station (StationLog station before) (sends stamp) outs (peers s.settings station) is)
-    ∙ ap (λ (at : ℕ). flat_map (λ (peer : ℕ). added (Sent s.settings station peer) (StationLog station before) (sends at ∷ [])) (peers s.settings station)) stamped
+    sym (sent-bits s.settings station (StationLog station before) (made.Slot stamp) outs (peers s.settings station) is)
+    ∙ ap (λ (at : ℕ). flat_map (λ (peer : ℕ). added (Sent s.settings station peer) (StationLog station before) (made.Slot at ∷ [])) (peers s.settings station)) stamped

@@ -11,14 +11,15 @@ use Rattle.ld_base.specs.Settings.{setting_fault}
 use Rattle.ld_base.specs.declared.fields.Fields.{Fields}
 use Rattle.pingpong.specs.declared.journal.Entry.{Entry}
 use Rattle.pingpong.specs.declared.journal.What.{What}
-use Rattle.relay_core.specs.Log.{Call, clock, now}
+use Rattle.relay_core.specs.Log.{clock, now}
+use Rattle.relay_core.specs.declared.call.Call.{Call}
 use Rattle.relay_core.specs.StandsFor.{IsPeerOf, Kept, StandsFor}
 use Rattle.waveform_reader.specs.Scenario.{Setup}
 use Rattle.waveform_reader.specs.Sound.{IsStation}
 use Rattle.line_world.specs.Hall.{AreTwo}
 use Rattle.line_world.specs.Occasions.{stations}
 use Rattle.line_world.specs.Stationed.{AreTerminals, IsTerminal}
-use Rattle.line_world.specs.StationLog.{StationLog, calls_by, calls_of}
+use Rattle.relay_core.specs.StationLog.{StationLog, calls_by, calls_of}
 
 -- an entry is the call of one station, and of no other
 pub record IsCallOf (station : ℕ) (call : Call) (entry : Entry) : Type 0 where

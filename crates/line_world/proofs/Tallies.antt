@@ -14,12 +14,12 @@ use Rattle.sample_store.proofs.Alongs.{along-push}
 use Rattle.relay_core.specs.Answers.{judged_by, news_by, refused_by, taken_by}
 use Rattle.relay_core.specs.Decided.{accepted_by}
 use Rattle.relay_core.specs.Line.{Gots}
-use Rattle.relay_core.specs.Log.{Call}
-use Rattle.relay_core.specs.Log.Call.{hears}
+use Rattle.relay_core.specs.declared.call.Call.{Call}
+use Rattle.relay_core.specs.declared.call.Call.TheVariants as made
 use Rattle.relay_core.specs.declared.answers.Heard.{Heard}
 use Rattle.relay_core.specs.declared.answers.Judged.{Judged}
-use Rattle.line_world.specs.Book.{IsHeard}
-use Rattle.line_world.specs.StationLog.{StationLog}
+use Rattle.relay_core.specs.IsAnswer.{IsHeard}
+use Rattle.relay_core.specs.StationLog.{StationLog}
 use Rattle.line_world.specs.Told.{accepted_in, more, with_heard, with_judged}
 use Rattle.line_world.specs.Totals.{Judgements, TotalOf, all_told, counted, has_trip, is_bad, is_repeated, is_strange, no_total, told_by, took_too_long}
 use Rattle.line_world.specs.declared.line.Total.{Total}
@@ -97,12 +97,12 @@ TotalOf-same f me log call silent none =
     TotalOf-silent f me log call None silent none ∙ total-alike refl (more-none _) (more-none _) refl refl refl refl refl
 
 -- what bits tell, counted
-pub TotalOf-heard : (f : Fields) (me peer at : ℕ) (bits : List ℕ) (log : List Call) (heard : Heard) → IsHeard f me peer log (hears at peer bits) heard
-    → length (accepted_by f me peer log (hears at peer bits)) ≡ length (option_to_list (accepted_in heard.news))
-    → TotalOf f me (log ++ hears at peer bits ∷ []) ≡ with_judged (with_heard (TotalOf f me log) heard) heard.judged
+pub TotalOf-heard : (f : Fields) (me peer at : ℕ) (bits : List ℕ) (log : List Call) (heard : Heard) → IsHeard f me peer log (made.Bits at peer bits) heard
+    → length (accepted_by f me peer log (made.Bits at peer bits)) ≡ length (option_to_list (accepted_in heard.news))
+    → TotalOf f me (log ++ made.Bits at peer bits ∷ []) ≡ with_judged (with_heard (TotalOf f me log) heard) heard.judged
 TotalOf-heard f me peer at bits log heard is accepted =
     let t = TotalOf f me log in
-    TotalOf-push f me log (hears at peer bits)
+    TotalOf-push f me log (made.Bits at peer bits)
     ∙ total-alike (ap (λ n. more t.accepted n) accepted)
     (ap (λ xs. more t.sets (length xs)) is.judged)
     (ap (λ xs. more t.trips (count_by has_trip xs)) is.judged)

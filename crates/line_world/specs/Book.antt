@@ -1,21 +1,13 @@
 -- The book: what is told of a journal, and what must be known of it to tell more.
-use Rattle.std.specs.Prelude.{◌≡◌, ℕ, List, [], ◌∷◌, All, map, reverse, slice_get, Some, suc}
-use Rattle.std.specs.Option.{option_to_list}
+use Rattle.std.specs.Prelude.{◌≡◌, ℕ, List, All, reverse, slice_get, Some, suc}
 use Rattle.ld_base.specs.declared.fields.Fields.{Fields}
 use Rattle.offset_track.specs.InForce.{kept}
 use Rattle.pingpong.specs.declared.journal.Entry.{Entry}
 use Rattle.pingpong.specs.declared.journal.What.{What}
-use Rattle.relay_core.specs.Answers.{changes_by, chosen_by, judged_by, news_by, news_in, outgo_by, outgo_of, refused_by, taken_by}
-use Rattle.relay_core.specs.Line.{Gots}
-use Rattle.relay_core.specs.Log.{Call, peers}
-use Rattle.relay_core.specs.declared.answers.Heard.{Heard}
-use Rattle.relay_core.specs.declared.answers.Sampled.{Sampled}
-use Rattle.relay_core.specs.declared.answers.Slotted.{Slotted}
-use Rattle.relay_message.specs.Messages.{added}
 use Rattle.line_world.specs.Crossings.{Arrivals, Beginnings, Crossings, Forged}
 use Rattle.line_world.specs.Ledger.{Ledger}
 use Rattle.line_world.specs.Report.{Lines}
-use Rattle.line_world.specs.StationLog.{StationLog}
+use Rattle.relay_core.specs.StationLog.{StationLog}
 use Rattle.line_world.specs.Totals.{TotalOf}
 use Rattle.line_world.specs.declared.line.Line.{Line}
 use Rattle.line_world.specs.declared.line.Total.{Total}
@@ -42,26 +34,6 @@ pub record IsBook (b : Book) (journal : List Entry) : Type 0 where
   pub totals : (k : ℕ) (t : Total) → slice_get b.totals k ≡ Some t → t ≡ TotalOf b.settings (suc k) (StationLog (suc k) journal)
   pub forged : b.forged ≡ Forged b.settings journal
   pub ledgers : All (IsLedger b.settings journal) b.ledgers
-
--- what a terminal answered to an own sample
-pub record IsSampled (f : Fields) (me : ℕ) (log : List Call) (call : Call) (answer : Sampled) : Type 0 where
-  pub judged : judged_by f me log call ≡ option_to_list answer.judged
-  pub changes : answer.changes.items ≡ changes_by f me log call
-
--- to a slot
-pub record IsSlotted (f : Fields) (me : ℕ) (log : List Call) (call : Call) (answer : Slotted) : Type 0 where
-  pub frames : map outgo_of answer.frames.items ≡ map (outgo_by f me log call) (peers f me)
-  pub changes : answer.changes.items ≡ changes_by f me log call
-
--- to bits from a peer
-pub record IsHeard (f : Fields) (me peer : ℕ) (log : List Call) (call : Call) (answer : Heard) : Type 0 where
-  pub frame : added (Gots f peer) log (call ∷ []) ≡ option_to_list answer.frame
-  pub news : news_by f me peer log call ≡ news_in answer.news
-  pub refused : answer.refused ≡ refused_by f peer log call
-  pub taken : taken_by f me peer log call ≡ option_to_list answer.taken
-  pub chosen : chosen_by f me peer log call ≡ option_to_list answer.chosen
-  pub judged : judged_by f me log call ≡ option_to_list answer.judged
-  pub changes : answer.changes.items ≡ changes_by f me log call
 
 -- the call that a station is handed at a moment, with what happened to it
 abbrev pub entry_at : Now → What → Entry

@@ -17,7 +17,7 @@ use Rattle.relay_core.specs.Sent.{Begun}
 use Rattle.relay_core.specs.declared.receipt.Receipt.{Receipt}
 use Rattle.relay_message.specs.Messages.{added}
 use Rattle.sample_store.specs.Along.{along}
-use Rattle.line_world.specs.StationLog.{StationLog, calls_by}
+use Rattle.relay_core.specs.StationLog.{StationLog, calls_by}
 use Rattle.line_world.specs.Totals.{counted}
 use Rattle.line_world.specs.declared.crossing.Arrival.{Arrival}
 use Rattle.line_world.specs.declared.crossing.Beginning.{Beginning}

@@ -1,5 +1,4 @@
 pub mod Wires
-pub mod StationLog
 pub mod Occasions
 pub mod World
 pub mod Run

@@ -17,7 +17,7 @@ use Rattle.relay_core.specs.declared.answers.Change.{Change}
 use Rattle.relay_core.specs.declared.answers.Judged.{Judged}
 use Rattle.sample_store.specs.Along.{along}
 use Rattle.line_world.specs.Crossings.{Crossings}
-use Rattle.line_world.specs.StationLog.{StationLog, calls_by}
+use Rattle.relay_core.specs.StationLog.{StationLog, calls_by}
 use Rattle.line_world.specs.Totals.{took_too_long}
 use Rattle.line_world.specs.declared.crossing.Crossing.{Crossing}
 use Rattle.line_world.specs.declared.crossing.Legs.{Legs}

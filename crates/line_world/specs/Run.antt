@@ -8,7 +8,7 @@ use Rattle.relay_core.specs.Sent.{Sent}
 use Rattle.waveform_reader.specs.Scenario.{Setup}
 use Rattle.line_world.specs.Occasions.{Moment, Occasion, moments, ways}
 use Rattle.line_world.specs.Occasions.Occasion.{arrival, departure, sampling, slot}
-use Rattle.line_world.specs.StationLog.{StationLog}
+use Rattle.relay_core.specs.StationLog.{StationLog}
 use Rattle.line_world.specs.Wires.{rules_of}
 use Rattle.line_world.specs.World.{Outcome, entries_of}
 use Rattle.line_world.specs.World.Outcome.{nothing, gives, fails}

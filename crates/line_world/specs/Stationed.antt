@@ -6,7 +6,7 @@ use Rattle.pingpong.specs.declared.journal.Entry.{Entry}
 use Rattle.relay_core.specs.StandsFor.{Kept, StandsFor}
 use Rattle.line_world.specs.Book.{IsBook}
 use Rattle.line_world.specs.Hall.{Hall}
-use Rattle.line_world.specs.StationLog.{StationLog}
+use Rattle.relay_core.specs.StationLog.{StationLog}
 use Rattle.line_world.specs.declared.hall.Hall.TheInside.{Inside}
 
 -- the terminal of station `me`, by a journal

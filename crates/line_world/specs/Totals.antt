@@ -15,8 +15,8 @@ use Rattle.trip_logic.specs.declared.verdict.Verdict.TheVariants as verdict
 use Rattle.relay_core.specs.Answers.{judged_by, news_by, refused_by, taken_by}
 use Rattle.relay_core.specs.Decided.{accepted_by}
 use Rattle.relay_core.specs.Line.{Gots}
-use Rattle.relay_core.specs.Log.{Call}
-use Rattle.relay_core.specs.Log.Call.{samples, sends, hears, faults}
+use Rattle.relay_core.specs.declared.call.Call.{Call}
+use Rattle.relay_core.specs.declared.call.Call.TheVariants as made
 use Rattle.relay_core.specs.declared.answers.Judged.{Judged}
 use Rattle.relay_core.specs.declared.answers.News.{News}
 use Rattle.relay_core.specs.declared.answers.News.TheVariants as news
@@ -24,10 +24,10 @@ use Rattle.line_world.specs.declared.line.Total.{Total}
 
 -- what bits from a peer tell, and no other call does
 abbrev pub told_by : {A : Type 0} → (ℕ → List Call → Call → List A) → List Call → Call → List A
-told_by tells before (hears at peer bits) = tells peer before (hears at peer bits)
-told_by tells before (samples at values) = []
-told_by tells before (sends at) = []
-told_by tells before (faults at peer) = []
+told_by tells before (made.Bits at peer bits) = tells peer before (made.Bits at peer bits)
+told_by tells before (made.Sample at values) = []
+told_by tells before (made.Slot at) = []
+told_by tells before (made.Fault at peer) = []
 
 -- and what all calls of a log tell
 abbrev pub all_told : {A : Type 0} → (ℕ → List Call → Call → List A) → List Call → List A

@@ -6,14 +6,14 @@ use Rattle.pingpong.specs.declared.journal.Entry.{Entry}
 use Rattle.pingpong.specs.declared.journal.What.{What}
 use Rattle.pingpong.specs.declared.journal.What.TheVariants.{Came, SendFailed, Slot, TakeFailed, Took}
 use Rattle.relay_core.specs.Log.{peers}
-use Rattle.relay_core.specs.Log.Call.{sends}
+use Rattle.relay_core.specs.declared.call.Call.TheVariants as made
 use Rattle.relay_core.specs.Sent.{Sent}
 use Rattle.relay_message.specs.Messages.{added}
 use Rattle.waveform_reader.specs.Scenario.{Setup, phases_at}
 use Rattle.waveform_reader.specs.Shapes.{value_at}
 use Rattle.line_world.specs.Occasions.{Moment, Occasion}
 use Rattle.line_world.specs.Occasions.Occasion.{arrival, departure, sampling, slot}
-use Rattle.line_world.specs.StationLog.{StationLog}
+use Rattle.relay_core.specs.StationLog.{StationLog}
 
 -- what a wire does when it is asked or sent on: nothing is told, bits come, or the call fails. Samples and slots ask no wire
 pub data Outcome : Type 0 where
@@ -37,7 +37,7 @@ number_of s station time = stamp_of s station time / s.settings.spacing
 -- the frames of a station's slot, as bits: one to each peer in order, by all that happened before
 abbrev pub frames_at : Setup → List Entry → ℕ → ℕ → List (List ℕ)
 frames_at s before time station =
-    flat_map (λ peer. added (Sent s.settings station peer) (StationLog station before) (sends (stamp_of s station time) ∷ [])) (peers s.settings station)
+    flat_map (λ peer. added (Sent s.settings station peer) (StationLog station before) (made.Slot (stamp_of s station time) ∷ [])) (peers s.settings station)
 
 -- the slot of a station with these frames
 abbrev pub slot_with : ℕ → List (List ℕ) → What

@@ -12,14 +12,15 @@ ghost use Rattle.pingpong.specs.declared.journal.What.{What};
 ghost use Rattle.pingpong.specs.declared.journal.What.TheVariants as what;
 ghost use Rattle.relay_core.specs.Answers.{changes_by};
 ghost use Rattle.relay_core.specs.Log as log;
-ghost use Rattle.relay_core.specs.Log.Call.{faults, hears, samples, sends};
+ghost use Rattle.relay_core.specs.declared.call.Call.TheVariants as made;
 ghost use Rattle.waveform_reader.specs.Sound.{IsStation};
-ghost use Rattle.line_world.specs.Book.{IsBook, IsHeard, IsSampled, IsSlotted, entry_at};
+ghost use Rattle.relay_core.specs.IsAnswer.{IsHeard, IsSampled, IsSlotted};
+ghost use Rattle.line_world.specs.Book.{IsBook, entry_at};
 ghost use Rattle.line_world.specs.Books.{IsEmpty, roomless, way_of};
 ghost use Rattle.line_world.specs.Ledger.{AreRising};
 ghost use Rattle.line_world.specs.Occasions.{ways};
 ghost use Rattle.line_world.specs.Report.{alarm_line, bound_of, error_of, est_line, set_line};
-ghost use Rattle.line_world.specs.StationLog.{StationLog, stamp_at};
+ghost use Rattle.relay_core.specs.StationLog.{StationLog, stamp_at};
 ghost use Rattle.line_world.specs.Totals.{has_trip};
 ghost use Rattle.line_world.specs.Told.{accepted_in, arrival_on, begun_to, crossing_told, heard_from, kept_then, last_on, legs_kept, more, with_accepted, with_arrival, with_heard, with_judged, with_slot};
 
@@ -120,7 +121,7 @@ impl Book {
         ensures settings { self.new.settings ≡ self.old.settings }
         ensures room { self.old.room ≤ self.new.room + 1 }
         ensures book { (journal : List Entry) (values : Phases) → IsBook self.old journal
-            → IsSampled self.old.settings me (StationLog me journal) (samples (stamp_at me (entry_at now.now (what.Took me values))) values) sampled.now
+            → IsSampled self.old.settings me (StationLog me journal) (made.Sample (stamp_at me (entry_at now.now (what.Took me values))) values) sampled.now
             → IsBook self.new (journal ++ entry_at now.now (what.Took me values) ∷ []) }
     {
         let total = &mut self.totals[usize::from(me.get()) - 1];
@@ -135,7 +136,7 @@ impl Book {
         ensures settings { self.new.settings ≡ self.old.settings }
         ensures room { self.old.room ≤ self.new.room + 1 }
         ensures book { (journal : List Entry) (first : List ℕ) (second : Option (List ℕ)) → IsBook self.old journal
-            → IsSlotted self.old.settings me (StationLog me journal) (sends (stamp_at me (entry_at now.now (what.Slot me first second)))) slotted.now
+            → IsSlotted self.old.settings me (StationLog me journal) (made.Slot (stamp_at me (entry_at now.now (what.Slot me first second)))) slotted.now
             → IsBook self.new (journal ++ entry_at now.now (what.Slot me first second) ∷ []) }
     {
         begin_all(&mut self.ledgers, now, me, &slotted.frames);
@@ -152,7 +153,7 @@ impl Book {
         ensures room { self.old.room ≤ self.new.room + 1 }
         ensures book { (journal : List Entry) (bits : List ℕ) → IsBook self.old journal
             → at ≡ log.now (StationLog me (journal ++ entry_at now.now (what.Came me peer bits) ∷ []))
-            → IsHeard self.old.settings me peer (StationLog me journal) (hears (stamp_at me (entry_at now.now (what.Came me peer bits))) peer bits) heard.now
+            → IsHeard self.old.settings me peer (StationLog me journal) (made.Bits (stamp_at me (entry_at now.now (what.Came me peer bits))) peer bits) heard.now
             → IsBook self.new (journal ++ entry_at now.now (what.Came me peer bits) ∷ []) }
     {
         let total = &mut self.totals[usize::from(me.get()) - 1];
@@ -181,10 +182,10 @@ impl Book {
         ensures settings { self.new.settings ≡ self.old.settings }
         ensures room { self.old.room ≤ self.new.room + 1 }
         ensures took { (journal : List Entry) (peer : ℕ) → IsBook self.old journal
-            → changes.now.items ≡ changes_by self.old.settings me (StationLog me journal) (faults (stamp_at me (entry_at now.now (what.TakeFailed me peer))) peer)
+            → changes.now.items ≡ changes_by self.old.settings me (StationLog me journal) (made.Fault (stamp_at me (entry_at now.now (what.TakeFailed me peer))) peer)
             → IsBook self.new (journal ++ entry_at now.now (what.TakeFailed me peer) ∷ []) }
         ensures sent { (journal : List Entry) (peer : ℕ) → IsBook self.old journal
-            → changes.now.items ≡ changes_by self.old.settings me (StationLog me journal) (faults (stamp_at me (entry_at now.now (what.SendFailed me peer))) peer)
+            → changes.now.items ≡ changes_by self.old.settings me (StationLog me journal) (made.Fault (stamp_at me (entry_at now.now (what.SendFailed me peer))) peer)
             → IsBook self.new (journal ++ entry_at now.now (what.SendFailed me peer) ∷ []) }
     {
         decide(&mut self.lines, now, me, None, changes);

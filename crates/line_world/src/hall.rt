@@ -15,7 +15,7 @@ ghost use Rattle.line_world.specs.Report.{Lines};
 ghost use Rattle.line_world.specs.Run.{newest_frame};
 ghost use Rattle.line_world.specs.Totals.{TotalOf};
 ghost use Rattle.line_world.specs.Stationed.{AreTerminals};
-ghost use Rattle.line_world.specs.StationLog.{StationLog};
+ghost use Rattle.relay_core.specs.StationLog.{StationLog};
 ghost use Rattle.line_world.specs.World.{entry_of, frames_at, slot_with};
 ghost use Rattle.relay_core.specs.StandsFor.{StandsFor};
 

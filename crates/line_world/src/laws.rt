@@ -8,7 +8,7 @@ ghost use Rattle.waveform_reader.specs.Scenario.{Setup};
 ghost use Rattle.waveform_reader.specs.Sound.{IsSetup};
 ghost use Rattle.line_world.specs.Journals.{ArePair, AreFirst, IsJournalOf};
 ghost use Rattle.line_world.specs.Occasions.{Moment};
-ghost use Rattle.line_world.specs.StationLog.{StationLog};
+ghost use Rattle.relay_core.specs.StationLog.{StationLog};
 ghost use Rattle.line_world.specs.World.{Leads};
 
 use waveform_reader::laws::clocks_keep_their_drift;

@@ -9,7 +9,7 @@ ghost use Rattle.line_world.specs.Report.{Lines};
 ghost use Rattle.line_world.specs.Run.{Run, lines_of};
 ghost use Rattle.line_world.specs.Tick.{AreLines, TellsNext};
 ghost use Rattle.line_world.specs.Worlds.{FollowsScript, Grows, Halted, HasEnded, IsDueByScript, IsLeast, IsNextDue, IsOver, IsWorld, Went};
-ghost use Rattle.line_world.specs.StationLog.{StationLog};
+ghost use Rattle.relay_core.specs.StationLog.{StationLog};
 ghost use Rattle.line_world.specs.Totals.{TotalOf};
 ghost use Rattle.relay_core.specs.StandsFor.{StandsFor};
 ghost use Rattle.waveform_reader.specs.Sound.{IsStation};

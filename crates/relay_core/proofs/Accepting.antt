@@ -13,7 +13,8 @@ use Rattle.sample_store.proofs.Alongs.{along-both, along-push}
 use Rattle.relay_core.specs.Accepted.{Accepted, Completed, Exchanges, accepted_among, accepted_of, is_addressed, last_of, next_number}
 use Rattle.relay_core.specs.Answers.{number_after}
 use Rattle.relay_core.specs.Line.{Line, Messages, messages_on}
-use Rattle.relay_core.specs.Log.{Call, now}
+use Rattle.relay_core.specs.Log.{now}
+use Rattle.relay_core.specs.declared.call.Call.{Call}
 use Rattle.relay_core.specs.declared.receipt.Receipt.{Receipt}
 use Rattle.relay_core.proofs.Calls.{Completed-push, added-none}
 

@@ -11,7 +11,8 @@ use Rattle.channel_alarm.specs.declared.alarm.Turn.{Turn}
 use Rattle.relay_core.specs.AlarmState.{AlarmState, facts}
 use Rattle.relay_core.specs.Answers.{changes_of}
 use Rattle.relay_core.specs.Follows.{Follows, Signals}
-use Rattle.relay_core.specs.Log.{Call, now, since}
+use Rattle.relay_core.specs.Log.{now, since}
+use Rattle.relay_core.specs.declared.call.Call.{Call}
 use Rattle.relay_core.specs.Turned.{facts_kept, told, turned}
 use Rattle.relay_core.specs.declared.answers.Change.{Change}
 use Rattle.relay_core.specs.declared.peer.Peer.{Peer}

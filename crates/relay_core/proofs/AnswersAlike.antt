@@ -4,7 +4,7 @@ use Rattle.std.specs.Option.{option_to_list}
 use Rattle.ld_base.specs.declared.fields.Fields.{Fields}
 use Rattle.relay_core.specs.Alike.{AreAlike}
 use Rattle.relay_core.specs.Answers.{news_in}
-use Rattle.relay_core.specs.Log.{Call}
+use Rattle.relay_core.specs.declared.call.Call.{Call}
 use Rattle.relay_core.specs.StandsFor.{Kept, StandsFor}
 use Rattle.relay_core.specs.declared.answers.News.{News}
 use Rattle.relay_core.specs.declared.answers.News.TheVariants as news

@@ -20,8 +20,9 @@ use Rattle.relay_core.specs.Accepted as accepted
 use Rattle.relay_core.specs.Calls.{AreCalls, IsCall}
 use Rattle.relay_core.specs.Decided.{Newest, Offers, accepted_by, offered_by, values_of}
 use Rattle.relay_core.specs.Line.{Line, Messages, bits_from}
-use Rattle.relay_core.specs.Log.{Call, now, stamp_of}
-use Rattle.relay_core.specs.Log.Call.{faults, hears, samples, sends}
+use Rattle.relay_core.specs.Log.{now, stamp_of}
+use Rattle.relay_core.specs.declared.call.Call.{Call}
+use Rattle.relay_core.specs.declared.call.Call.TheVariants as made
 use Rattle.relay_core.specs.Sent.{echo_of, message_of, ready}
 use Rattle.relay_core.specs.declared.receipt.Receipt.{Receipt}
 use Rattle.relay_core.proofs.Lists.{All-end, All-flat_map, All-last, along-all}
@@ -38,14 +39,14 @@ now-until log calls = fold-until log 0 (omega arith) calls
 
 -- the line from a peer has bits
 heard-bits : (peer : ℕ) (call : Call) → IsCall call → AreBits (bits_from peer call)
-heard-bits peer (samples at values) is = record { each = λ i. omega arith }
-heard-bits peer (sends at) is = record { each = λ i. omega arith }
-heard-bits peer (hears at from bits) is = go (from == peer)
+heard-bits peer (made.Sample at values) is = record { each = λ i. omega arith }
+heard-bits peer (made.Slot at) is = record { each = λ i. omega arith }
+heard-bits peer (made.Bits at from bits) is = go (from == peer)
   where
     go : (b : Bool) → AreBits (cond b bits [])
     go true = is.bits
     go false = record { each = λ i. omega arith }
-heard-bits peer (faults at from) is = record { each = λ i. omega arith }
+heard-bits peer (made.Fault at from) is = record { each = λ i. omega arith }
 
 line-bits : (peer : ℕ) (log : List Call) → AreCalls log → AreBits (Line peer log)
 line-bits peer [] calls = record { each = λ i. omega arith }
@@ -95,15 +96,15 @@ FitsOffer (Own at values) = (at ≤ last_stamp) × FitPhases values
 FitsOffer (Value chosen peer number values) = Unit {0}
 
 offered-fits : (f : Fields) (me : ℕ) (before : List Call) (call : Call) → AreCalls (before ++ call ∷ []) → All FitsOffer (offered_by f me before call)
-offered-fits f me before (samples at values) calls =
-    All-cons FitsOffer (Own (now (before ++ samples at values ∷ [])) values) []
-    (now-until (before ++ samples at values ∷ []) calls, (All-end IsCall before (samples at values) calls).values) (All-nil FitsOffer)
-offered-fits f me before (sends at) calls = All-nil FitsOffer
-offered-fits f me before (hears at peer bits) calls =
-    let log = before ++ hears at peer bits ∷ [] in
-    All-flat_map FitsOffer (λ r. map (values_of peer r) (option_to_list (InForceWith f me peer log))) (accepted_by f me peer before (hears at peer bits))
+offered-fits f me before (made.Sample at values) calls =
+    All-cons FitsOffer (Own (now (before ++ made.Sample at values ∷ [])) values) []
+    (now-until (before ++ made.Sample at values ∷ []) calls, (All-end IsCall before (made.Sample at values) calls).values) (All-nil FitsOffer)
+offered-fits f me before (made.Slot at) calls = All-nil FitsOffer
+offered-fits f me before (made.Bits at peer bits) calls =
+    let log = before ++ made.Bits at peer bits ∷ [] in
+    All-flat_map FitsOffer (λ r. map (values_of peer r) (option_to_list (InForceWith f me peer log))) (accepted_by f me peer before (made.Bits at peer bits))
     (λ r. All-map FitsOffer (values_of peer r) (option_to_list (InForceWith f me peer log)) (λ k d within. tt))
-offered-fits f me before (faults at peer) calls = All-nil FitsOffer
+offered-fits f me before (made.Fault at peer) calls = All-nil FitsOffer
 
 Offers-fit : (f : Fields) (me : ℕ) (log : List Call) → AreCalls log → All FitsOffer (Offers f me log)
 Offers-fit f me log = along-all (λ before offers call. offered_by f me before call) IsCall FitsOffer (λ before offers call calls. offered-fits f me before call calls) log

@@ -9,7 +9,8 @@ use Rattle.sample_store.proofs.Alongs.{along-push}
 use Rattle.relay_core.specs.Accepted.{Completed, completed_by}
 use Rattle.relay_core.specs.AlarmState.{faulty_after, is_faulty}
 use Rattle.relay_core.specs.Line.{Line, bits_from}
-use Rattle.relay_core.specs.Log.{Call, clock, now, stamp_of}
+use Rattle.relay_core.specs.Log.{clock, now, stamp_of}
+use Rattle.relay_core.specs.declared.call.Call.{Call}
 use Rattle.relay_core.specs.Sent.{Slots, slot_by}
 
 -- what more elements add, where that is known

@@ -8,8 +8,9 @@ use Rattle.std.proofs.lemmas.Option.{slice_get-get_or, slice_get-map, slice_get_
 use Rattle.ld_base.specs.declared.fields.Fields.{Fields}
 use Rattle.relay_core.specs.AlarmState.{is_faulty}
 use Rattle.relay_core.specs.Follows.{Follows, Signals}
-use Rattle.relay_core.specs.Log.{Call, is_peer, peers}
-use Rattle.relay_core.specs.Log.Call.{faults, hears}
+use Rattle.relay_core.specs.Log.{is_peer, peers}
+use Rattle.relay_core.specs.declared.call.Call.{Call}
+use Rattle.relay_core.specs.declared.call.Call.TheVariants as made
 use Rattle.relay_core.specs.Turned.{IsCalmTrue}
 use Rattle.relay_core.specs.declared.peer.Peer.{Peer}
 use Rattle.relay_core.proofs.Following.{Follows-elsewhere, IsElsewhere}
@@ -80,14 +81,14 @@ another station other here there away = go (eqb station other) refl
     go false is = refl
 
 pub hears-elsewhere : (f : Fields) (me : ℕ) (log : List Call) (at peer : ℕ) (bits : List ℕ) (station : ℕ) → station ≢ peer
-    → IsElsewhere f me log (hears at peer bits) station
+    → IsElsewhere f me log (made.Bits at peer bits) station
 hears-elsewhere f me log at peer bits station away = record {
   bits = another peer station bits [] away;
   slots = refl;
   faulty = another peer station false (is_faulty station log) away;
 }
 
-pub faults-elsewhere : (f : Fields) (me : ℕ) (log : List Call) (at peer station : ℕ) → station ≢ peer → IsElsewhere f me log (faults at peer) station
+pub faults-elsewhere : (f : Fields) (me : ℕ) (log : List Call) (at peer station : ℕ) → station ≢ peer → IsElsewhere f me log (made.Fault at peer) station
 faults-elsewhere f me log at peer station away = record {
   bits = refl;
   slots = refl;

@@ -19,7 +19,8 @@ use Rattle.sample_store.specs.Along.{along_from}
 use Rattle.sample_store.proofs.Alongs.{along-both}
 use Rattle.relay_core.specs.Accepted.{Completed, accepted_among, accepted_of, completed_by, is_addressed, next_number}
 use Rattle.relay_core.specs.Line.{Line, Messages, bits_from, gots_on, messages_on, payload_on, rules_of}
-use Rattle.relay_core.specs.Log.{Call, now}
+use Rattle.relay_core.specs.Log.{now}
+use Rattle.relay_core.specs.declared.call.Call.{Call}
 use Rattle.relay_core.specs.declared.receipt.Receipt.{Receipt}
 use Rattle.relay_core.proofs.Accepting.{next_number-push}
 use Rattle.relay_core.proofs.Calls.{Line-push, added-is}

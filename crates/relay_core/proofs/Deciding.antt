@@ -1,6 +1,8 @@
 -- A decider with some more calls of its store.
 use Rattle.std.specs.Prelude.{ℤ, map}
-use Rattle.std.proofs.Common.{◌≡◌, ℕ, List, [], ◌∷◌, ◌++◌, length, drop, ap, sym, ◌∙◌, subst, append_assoc}
+use Rattle.std.proofs.Common.{◌≡◌, ℕ, ◌+◌, ◌≤◌, List, [], ◌∷◌, ◌++◌, None, length, drop, reverse, slice_get, ap, sym, ◌∙◌, subst, append_assoc, arith}
+use Rattle.std.proofs.Math.Dec.{ltb}
+use Rattle.std.proofs.lemmas.Bool.{cond-true, lt-ltb}
 use Rattle.ld_base.specs.declared.fields.Fields.{Fields}
 use Rattle.ld_base.specs.declared.phases.SampleSet.{SampleSet}
 use Rattle.sample_store.specs.Aligned.{Aligned}
@@ -12,6 +14,7 @@ use Rattle.sample_store.specs.Stock as store
 use Rattle.sample_store.proofs.Alongs.{along-push}
 use Rattle.sample_store.proofs.JudgedSets.{Given-as_a_terminal, offers_of-as_a_terminal}
 use Rattle.sample_store.proofs.Owns.{Given-offered}
+use Rattle.trip_logic.specs.Cause.{cause}
 use Rattle.trip_logic.specs.Progress as trip
 use Rattle.relay_core.specs.Answers.{judgement, judgements}
 use Rattle.relay_core.specs.Decides.{Decides, Judges}
@@ -92,3 +95,7 @@ place_answer-over_all f me d offers peer now number estimate2 decides =
     decides.fields.0
     ∙ ap (λ xs. place_answer f.spacing f.limit now (λ n. numbered n (Placed f.spacing f.limit peer xs)) (Aligned f.spacing number estimate2))
     (offers_of-as_a_terminal f offers)
+
+-- the last set judged may have led to a trip
+pub cause-last : (f : Fields) (judged : List SampleSet) → 1 ≤ f.count → cause f judged 0 ≡ slice_get (reverse judged) 0
+cause-last f judged some = cond-true (ltb 0 (f.cycle + f.count)) (slice_get (reverse judged) 0) None (lt-ltb 0 (f.cycle + f.count) (omega (arith, some)))

@@ -17,8 +17,9 @@ use Rattle.relay_core.specs.Decided.{values_of}
 use Rattle.relay_core.specs.Follows.{Brings, Brought, Follows, chosen_in, exchanges_in, fresh_in, last_after, receipts_in, values_in}
 use Rattle.relay_core.specs.Line.{Gots, Line, Messages, Refusals, bits_from, gots_on, messages_on, refusals_on}
 use Rattle.relay_core.specs.Listens.{Listens, Tells}
-use Rattle.relay_core.specs.Log.{Call, now}
-use Rattle.relay_core.specs.Log.Call.{faults, hears}
+use Rattle.relay_core.specs.Log.{now}
+use Rattle.relay_core.specs.declared.call.Call.{Call}
+use Rattle.relay_core.specs.declared.call.Call.TheVariants as made
 use Rattle.relay_core.specs.Sent.{Slots, slot_by}
 use Rattle.relay_core.specs.Talks.{Talks}
 use Rattle.relay_core.specs.declared.answers.News.{News}
@@ -80,10 +81,10 @@ Follows-new f me p settings listens talks stands last faulty =
 
 -- a failed call on a wire of the peer
 pub Follows-faults : (f : Fields) (me at : ℕ) (log : List Call) (p : Peer) (calm : Calm) → Follows f me log p
-    → Follows f me (log ++ faults at p.station ∷ [])
+    → Follows f me (log ++ made.Fault at p.station ∷ [])
     (record { station = p.station; listener = p.listener; talker = p.talker; track = p.track; last = p.last; faulty = true; alarms = p.alarms; calm = calm })
 Follows-faults f me at log p calm follows =
-    let call = faults at p.station in
+    let call = made.Fault at p.station in
     let line = Line-same p.station log call refl in
     let accepted = Accepted-same f me p.station log call line in
     record {
@@ -96,36 +97,36 @@ Follows-faults f me at log p calm follows =
     }
 
 -- bits of a peer's line
-own_bits : (peer at : ℕ) (bits : List ℕ) → bits_from peer (hears at peer bits) ≡ bits
+own_bits : (peer at : ℕ) (bits : List ℕ) → bits_from peer (made.Bits at peer bits) ≡ bits
 own_bits peer at bits = own peer bits []
 
-Line-hears : (peer at : ℕ) (log : List Call) (bits : List ℕ) → Line peer (log ++ hears at peer bits ∷ []) ≡ Line peer log ++ bits
-Line-hears peer at log bits = Line-push peer log (hears at peer bits) ∙ ap (λ more. Line peer log ++ more) (own_bits peer at bits)
+Line-hears : (peer at : ℕ) (log : List Call) (bits : List ℕ) → Line peer (log ++ made.Bits at peer bits ∷ []) ≡ Line peer log ++ bits
+Line-hears peer at log bits = Line-push peer log (made.Bits at peer bits) ∙ ap (λ more. Line peer log ++ more) (own_bits peer at bits)
 
 -- what is known where a peer's bits were heard
 pub record AreHeard (f : Fields) (me at time : ℕ) (log : List Call) (p : Peer) (bits : List ℕ) (told : Told) (n : News) : Type 0 where
-  pub is_time : time ≡ now (log ++ hears at p.station bits ∷ [])
+  pub is_time : time ≡ now (log ++ made.Bits at p.station bits ∷ [])
   pub follows : Follows f me log p
   pub tells : Tells f (Line p.station log) bits told
   pub says : map (news_of me p.station p.last) (option_to_list told.message) ≡ news_in n
 
 messages : (f : Fields) (me at time : ℕ) (log : List Call) (p : Peer) (bits : List ℕ) (told : Told) (n : News) → AreHeard f me at time log p bits told n
-    → added (Messages f p.station) log (hears at p.station bits ∷ []) ≡ option_to_list told.message
+    → added (Messages f p.station) log (made.Bits at p.station bits ∷ []) ≡ option_to_list told.message
 messages f me at time log p bits told n heard =
-    added-is (Messages f p.station) log (hears at p.station bits ∷ []) (option_to_list told.message)
+    added-is (Messages f p.station) log (made.Bits at p.station bits ∷ []) (option_to_list told.message)
     (ap (messages_on f) (Line-hears p.station at log bits) ∙ heard.tells.message)
 
 accepted : (f : Fields) (me at time : ℕ) (log : List Call) (p : Peer) (bits : List ℕ) (told : Told) (n : News) → AreHeard f me at time log p bits told n
-    → Accepted f me p.station (log ++ hears at p.station bits ∷ []) ≡ Accepted f me p.station log ++ receipts_in time n
+    → Accepted f me p.station (log ++ made.Bits at p.station bits ∷ []) ≡ Accepted f me p.station log ++ receipts_in time n
 accepted f me at time log p bits told n heard =
-    Accepted-news f me p.station log (hears at p.station bits) told.message n (messages f me at time log p bits told n heard)
+    Accepted-news f me p.station log (made.Bits at p.station bits) told.message n (messages f me at time log p bits told n heard)
     (ap (λ last. map (news_of me p.station last) (option_to_list told.message)) (sym heard.follows.last) ∙ heard.says)
     ∙ ap (λ t. Accepted f me p.station log ++ receipts_in t n) (sym heard.is_time)
 
 exchanges : (f : Fields) (me at time : ℕ) (log : List Call) (p : Peer) (bits : List ℕ) (told : Told) (n : News) → AreHeard f me at time log p bits told n
-    → Exchanges f me p.station (log ++ hears at p.station bits ∷ []) ≡ Exchanges f me p.station log ++ exchanges_in time n
+    → Exchanges f me p.station (log ++ made.Bits at p.station bits ∷ []) ≡ Exchanges f me p.station log ++ exchanges_in time n
 exchanges f me at time log p bits told n heard =
-    let call = hears at p.station bits in
+    let call = made.Bits at p.station bits in
     Exchanges-push f me p.station log call (receipts_in time n) (accepted f me at time log p bits told n heard)
     ∙ ap (λ es. Exchanges f me p.station log ++ es) (exchanges-receipts time n)
 
@@ -134,10 +135,10 @@ pub Follows-hears : (f : Fields) (me at time : ℕ) (log : List Call) (p : Peer)
     → (kept.slow ≡ p.track.slow) × (kept.age ≡ p.track.age)
     → track.StandsFor kept (Exchanges f me p.station log ++ exchanges_in time n)
     → last ≡ last_after p.last time n
-    → Follows f me (log ++ hears at p.station bits ∷ [])
+    → Follows f me (log ++ made.Bits at p.station bits ∷ [])
     (record { station = p.station; listener = listener; talker = p.talker; track = kept; last = last; faulty = false; alarms = p.alarms; calm = calm })
 Follows-hears f me at time log p bits told n listener kept last calm heard listens settings stands is_last =
-    let call = hears at p.station bits in
+    let call = made.Bits at p.station bits in
     record {
       settings = (settings.0 ∙ heard.follows.settings.0, settings.1 ∙ heard.follows.settings.1);
       listens = subst (Listens f listener) (sym (Line-hears p.station at log bits)) listens;
@@ -176,10 +177,10 @@ pub Brings-hears : (f : Fields) (me at time : ℕ) (log : List Call) (p : Peer) 
     → AreHeard f me at time log p bits told n → b.frame ≡ told.frame → b.news ≡ n → b.refused ≡ told.refused
     → map (taken_of p.track.slow) (exchanges_in time n) ≡ option_to_list b.taken
     → b.fresh ≡ fresh_in p.track.slow p.track.age (Exchanges f me p.station log ++ exchanges_in time n) time n
-    → Brings f me log p.station (hears at p.station bits) b
+    → Brings f me log p.station (made.Bits at p.station bits) b
 Brings-hears f me at time log p bits told n b heard frame is refused taken fresh =
     let peer = p.station in
-    let call = hears at peer bits in
+    let call = made.Bits at peer bits in
     let line = Line-hears peer at log bits in
     let receipts = added-is (Accepted f me peer) log (call ∷ []) (receipts_in time n) (accepted f me at time log p bits told n heard) in
     let offered = exchanges f me at time log p bits told n heard in

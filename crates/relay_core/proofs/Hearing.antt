@@ -12,7 +12,8 @@ use Rattle.relay_core.specs.Accepted.{Accepted, accepted_of, is_addressed, last_
 use Rattle.relay_core.specs.Answers.{last_number, news_in, news_of, number_after}
 use Rattle.relay_core.specs.Follows.{exchanges_in, last_after, receipts_in}
 use Rattle.relay_core.specs.Line.{Messages}
-use Rattle.relay_core.specs.Log.{Call, now}
+use Rattle.relay_core.specs.Log.{now}
+use Rattle.relay_core.specs.declared.call.Call.{Call}
 use Rattle.relay_core.specs.declared.answers.News.{News}
 use Rattle.relay_core.specs.declared.answers.News.TheVariants as news
 use Rattle.relay_core.specs.declared.receipt.Receipt.{Receipt}

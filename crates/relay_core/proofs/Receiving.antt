@@ -11,8 +11,9 @@ use Rattle.relay_core.specs.Answers.{chosen_by}
 use Rattle.relay_core.specs.Decided.{Offers}
 use Rattle.relay_core.specs.Decides.{Decides}
 use Rattle.relay_core.specs.Follows.{Brings, Brought, Follows, values_in}
-use Rattle.relay_core.specs.Log.{Call, now}
-use Rattle.relay_core.specs.Log.Call.{faults, hears}
+use Rattle.relay_core.specs.Log.{now}
+use Rattle.relay_core.specs.declared.call.Call.{Call}
+use Rattle.relay_core.specs.declared.call.Call.TheVariants as made
 use Rattle.relay_core.specs.StandsFor.{Kept, StandsFor, span_with}
 use Rattle.relay_core.specs.declared.answers.News.{News}
 use Rattle.relay_core.specs.declared.answers.News.TheVariants as news
@@ -33,9 +34,9 @@ Taken-values spacing offers peer (news.Accepted m) None = ap (Taken spacing) (ap
 Taken-values spacing offers peer (news.Accepted m) (Some chosen) =
     along-push (λ before taken offer. taken_by spacing taken offer) offers _ ∙ append-nil (Taken spacing offers)
 
-pub Offers-hears : (f : Fields) (me at peer : ℕ) (log : List Call) (bits : List ℕ) (b : Brought) → Brings f me log peer (hears at peer bits) b
-    → Offers f me (log ++ hears at peer bits ∷ []) ≡ Offers f me log ++ values_in peer b.news b.fresh
-Offers-hears f me at peer log bits b brings = Offers-push f me log (hears at peer bits) ∙ ap (λ more. Offers f me log ++ more) brings.values
+pub Offers-hears : (f : Fields) (me at peer : ℕ) (log : List Call) (bits : List ℕ) (b : Brought) → Brings f me log peer (made.Bits at peer bits) b
+    → Offers f me (log ++ made.Bits at peer bits ∷ []) ≡ Offers f me log ++ values_in peer b.news b.fresh
+Offers-hears f me at peer log bits b brings = Offers-push f me log (made.Bits at peer bits) ∙ ap (λ more. Offers f me log ++ more) brings.values
 
 -- the exchange that was chosen
 pub chosen-brought : (f : Fields) (me : ℕ) (log : List Call) (peer : ℕ) (call : Call) (b : Brought) → Brings f me log peer call b
@@ -57,36 +58,36 @@ pub record IsReceived (t : Kept) (log : List Call) (at peer : ℕ) (bits : List 
   pub stands : StandsFor t log
   pub is_span : span ≡ span_with t.span at
   pub is_at : IsAt t.settings t.me t.peers place peer x
-  pub follows : Follows t.settings t.me (log ++ hears at peer bits ∷ []) y
-  pub brings : Brings t.settings t.me log peer (hears at peer bits) b
+  pub follows : Follows t.settings t.me (log ++ made.Bits at peer bits ∷ []) y
+  pub brings : Brings t.settings t.me log peer (made.Bits at peer bits) b
 
 pub Received : (t : Kept) (log : List Call) (at peer : ℕ) (bits : List ℕ) (span : Span) (place : ℕ) (x y : Peer) (b : Brought)
     → StandsFor t log → span ≡ span_with t.span at → IsAt t.settings t.me t.peers place peer x
-    → ((f : Fields) (calls : List Call) (at : ℕ) → Follows f t.me calls x → span.now ≡ now (calls ++ hears at x.station bits ∷ [])
-    → Follows f t.me (calls ++ hears at x.station bits ∷ []) y)
-    → ((f : Fields) (calls : List Call) (at : ℕ) → Follows f t.me calls x → span.now ≡ now (calls ++ hears at x.station bits ∷ [])
-    → Brings f t.me calls x.station (hears at x.station bits) b)
+    → ((f : Fields) (calls : List Call) (at : ℕ) → Follows f t.me calls x → span.now ≡ now (calls ++ made.Bits at x.station bits ∷ [])
+    → Follows f t.me (calls ++ made.Bits at x.station bits ∷ []) y)
+    → ((f : Fields) (calls : List Call) (at : ℕ) → Follows f t.me calls x → span.now ≡ now (calls ++ made.Bits at x.station bits ∷ [])
+    → Brings f t.me calls x.station (made.Bits at x.station bits) b)
     → IsReceived t log at peer bits span place x y b
 Received t log at peer bits span place x y b stands is_span is_at follows brings =
     let f = t.settings in
     let station = station-at f t.me t.peers place peer x is_at in
     let old = subst (Follows f t.me log) (sym is_at.is) (stands.follow place x is_at.inside) in
-    let time = (span-served t log (hears at x.station bits) span stands is_span).time in
+    let time = (span-served t log (made.Bits at x.station bits) span stands is_span).time in
     record {
       stands = stands;
       is_span = is_span;
       is_at = is_at;
-      follows = subst (λ s. Follows f t.me (log ++ hears at s bits ∷ []) y) station (follows f log at old time);
-      brings = subst (λ s. Brings f t.me log s (hears at s bits) b) station (brings f log at old time);
+      follows = subst (λ s. Follows f t.me (log ++ made.Bits at s bits ∷ []) y) station (follows f log at old time);
+      brings = subst (λ s. Brings f t.me log s (made.Bits at s bits) b) station (brings f log at old time);
     }
 
 pub Served-hears : (t : Kept) (log : List Call) (at peer : ℕ) (bits : List ℕ) (span : Span) (decider : Decider) (place : ℕ) (x y : Peer) (b : Brought)
     → IsReceived t log at peer bits span place x y b → Decides t.settings t.me decider (Offers t.settings t.me log ++ values_in peer b.news b.fresh)
     → y.station ≡ x.station → y.alarms ≡ x.alarms
-    → IsServed t log (hears at peer bits) span t.newest decider (set t.peers place y)
+    → IsServed t log (made.Bits at peer bits) span t.newest decider (set t.peers place y)
 Served-hears t log at peer bits span decider place x y b received decides station alarms =
     let f = t.settings in
-    let call = hears at peer bits in
+    let call = made.Bits at peer bits in
     let offers = Offers-hears f t.me at peer log bits b received.brings in
     record {
       stands = received.stands;
@@ -103,11 +104,11 @@ Served-hears t log at peer bits span decider place x y b received decides statio
 -- and with a failed call on a wire of a peer
 pub Served-faults : (t : Kept) (log : List Call) (at peer : ℕ) (span : Span) (place : ℕ) (x y : Peer)
     → StandsFor t log → span ≡ span_with t.span at → IsAt t.settings t.me t.peers place peer x
-    → Follows t.settings t.me (log ++ faults at peer ∷ []) y → y.station ≡ x.station → y.alarms ≡ x.alarms
-    → IsServed t log (faults at peer) span t.newest t.decider (set t.peers place y)
+    → Follows t.settings t.me (log ++ made.Fault at peer ∷ []) y → y.station ≡ x.station → y.alarms ≡ x.alarms
+    → IsServed t log (made.Fault at peer) span t.newest t.decider (set t.peers place y)
 Served-faults t log at peer span place x y stands is_span is_at follows station alarms =
     let f = t.settings in
-    let call = faults at peer in
+    let call = made.Fault at peer in
     let offers = Offers-same f t.me log call refl in
     record {
       stands = stands;

@@ -12,8 +12,9 @@ use Rattle.sample_store.specs.declared.store.OwnTaken.TheVariants.{Took, OffGrid
 use Rattle.sample_store.proofs.Alongs.{along-push}
 use Rattle.relay_core.specs.Decided.{Newest, Offers, newest_after}
 use Rattle.relay_core.specs.Decides.{Decides}
-use Rattle.relay_core.specs.Log.{Call, now}
-use Rattle.relay_core.specs.Log.Call.{samples}
+use Rattle.relay_core.specs.Log.{now}
+use Rattle.relay_core.specs.declared.call.Call.{Call}
+use Rattle.relay_core.specs.declared.call.Call.TheVariants as made
 use Rattle.relay_core.specs.StandsFor.{Kept, StandsFor, span_with}
 use Rattle.relay_core.specs.declared.decider.Decider.{Decider}
 use Rattle.relay_core.specs.declared.terminal.Span.{Span}
@@ -35,19 +36,19 @@ newest-own spacing offers time v =
     newest-under (Taken spacing offers) (next_number (Taken spacing offers)) (time / spacing) (nat_le (time % spacing) 1) (nat_le (next_number (Taken spacing offers)) (time / spacing)) v
     ∙ sym (ap (λ xs. slice_get (reverse xs) 0) (along-push (λ before taken offer. taken_by spacing taken offer) offers (Own time v)))
 
-pub Offers-samples : (f : Fields) (me at time : ℕ) (log : List Call) (v : Phases) → time ≡ now (log ++ samples at v ∷ [])
-    → Offers f me (log ++ samples at v ∷ []) ≡ Offers f me log ++ Own time v ∷ []
-Offers-samples f me at time log v is_time = Offers-push f me log (samples at v) ∙ ap (λ t. Offers f me log ++ Own t v ∷ []) (sym is_time)
+pub Offers-samples : (f : Fields) (me at time : ℕ) (log : List Call) (v : Phases) → time ≡ now (log ++ made.Sample at v ∷ [])
+    → Offers f me (log ++ made.Sample at v ∷ []) ≡ Offers f me log ++ Own time v ∷ []
+Offers-samples f me at time log v is_time = Offers-push f me log (made.Sample at v) ∙ ap (λ t. Offers f me log ++ Own t v ∷ []) (sym is_time)
 
 pub Served-samples : (t : Kept) (log : List Call) (at : ℕ) (v : Phases) (span : Span) (own : OwnTaken) (newest : Option Numbered) (decider : Decider)
     → StandsFor t log → span ≡ span_with t.span at
     → own ≡ own_answer t.settings.spacing (next_number (Taken t.settings.spacing (Offers t.settings t.me log))) span.now
     → newest ≡ newest_after t.newest own v
     → Decides t.settings t.me decider (Offers t.settings t.me log ++ Own span.now v ∷ [])
-    → IsServed t log (samples at v) span newest decider t.peers
+    → IsServed t log (made.Sample at v) span newest decider t.peers
 Served-samples t log at v span own newest decider stands is_span is_own is_newest decides =
     let f = t.settings in
-    let call = samples at v in
+    let call = made.Sample at v in
     let offers = Offers-samples f t.me at span.now log v (span-served t log call span stands is_span).time in
     record {
       stands = stands;

@@ -16,8 +16,9 @@ use Rattle.relay_core.specs.Decided.{Newest}
 use Rattle.relay_core.specs.Follows.{Follows}
 use Rattle.relay_core.specs.Line.{is_locked_from}
 use Rattle.relay_core.specs.Listens.{Listens}
-use Rattle.relay_core.specs.Log.{Call, now}
-use Rattle.relay_core.specs.Log.Call.{sends}
+use Rattle.relay_core.specs.Log.{now}
+use Rattle.relay_core.specs.declared.call.Call.{Call}
+use Rattle.relay_core.specs.declared.call.Call.TheVariants as made
 use Rattle.relay_core.specs.Sent.{Begun, Sent, Slots, begins, begun_in, echo_of, frames_sent, message_of}
 use Rattle.relay_core.specs.Talks.{Speaks, Spoken, Talks}
 use Rattle.relay_core.specs.declared.peer.Peer.{Peer}
@@ -36,13 +37,13 @@ begun-push slots loaded yellow = filter_map-append (λ slot. slot.loaded) slots 
 
 -- the slot that was spoken is that of the call
 record IsSlot (f : Fields) (me at : ℕ) (log : List Call) (p : Peer) (talker : Talker) (spoken : Spoken) : Type 0 where
-  slots : Slots f me p.station (log ++ sends at ∷ []) ≡ Slots f me p.station log ++ record { loaded = spoken.begun; yellow = not p.listener.locked } ∷ []
-  talks : Talks f talker (Slots f me p.station (log ++ sends at ∷ []))
+  slots : Slots f me p.station (log ++ made.Slot at ∷ []) ≡ Slots f me p.station log ++ record { loaded = spoken.begun; yellow = not p.listener.locked } ∷ []
+  talks : Talks f talker (Slots f me p.station (log ++ made.Slot at ∷ []))
 
 -- what is known where a slot was spoken, with the message of a sample ready
 pub record IsSpoken (f : Fields) (me at time : ℕ) (log : List Call) (p : Peer) (newest : Option Numbered) (talker : Talker) (spoken : Spoken) : Type 0 where
   pub follows : Follows f me log p
-  pub is_time : time ≡ now (log ++ sends at ∷ [])
+  pub is_time : time ≡ now (log ++ made.Slot at ∷ [])
   pub is_newest : newest ≡ Newest f me log
   pub speaks : Speaks f talker (Slots f me p.station log) (option_map (message_of me p.station time (echo_of p.last)) newest) (not p.listener.locked) spoken
 
@@ -50,7 +51,7 @@ slot : (f : Fields) (me at time : ℕ) (log : List Call) (p : Peer) (newest : Op
     → IsSpoken f me at time log p newest talker spoken → IsSlot f me at log p talker spoken
 slot f me at time log p newest talker spoken is =
     let peer = p.station in
-    let call = sends at in
+    let call = made.Slot at in
     let begun =
     is.speaks.begun
     ∙ ap (λ t. begins f.channels (Slots f me peer log) (option_map (message_of me peer t (echo_of p.last)) newest)) is.is_time
@@ -64,10 +65,10 @@ slot f me at time log p newest talker spoken is =
 
 pub Follows-sends : (f : Fields) (me at time : ℕ) (log : List Call) (p : Peer) (newest : Option Numbered) (talker : Talker) (spoken : Spoken)
     → IsSpoken f me at time log p newest talker spoken
-    → Follows f me (log ++ sends at ∷ [])
+    → Follows f me (log ++ made.Slot at ∷ [])
     (record { station = p.station; listener = p.listener; talker = talker; track = p.track; last = p.last; faulty = p.faulty; alarms = p.alarms; calm = p.calm })
 Follows-sends f me at time log p newest talker spoken is =
-    let call = sends at in
+    let call = made.Slot at in
     let line = Line-same p.station log call refl in
     let accepted = Accepted-same f me p.station log call line in
     record {
@@ -81,10 +82,10 @@ Follows-sends f me at time log p newest talker spoken is =
 
 pub Outgo-sends : (f : Fields) (me at time : ℕ) (log : List Call) (p : Peer) (newest : Option Numbered) (talker : Talker) (spoken : Spoken)
     → IsSpoken f me at time log p newest talker spoken
-    → outgo_of (record { to = p.station; bytes = spoken.bytes; begun = spoken.begun }) ≡ outgo_by f me log (sends at) p.station
+    → outgo_of (record { to = p.station; bytes = spoken.bytes; begun = spoken.begun }) ≡ outgo_by f me log (made.Slot at) p.station
 Outgo-sends f me at time log p newest talker spoken is =
     let peer = p.station in
-    let call = sends at in
+    let call = made.Slot at in
     let parts = (slot f me at time log p newest talker spoken is).slots in
     let frames = added-is (Sent f me peer) log (call ∷ []) (bits_of spoken.bytes ∷ []) (ap (frames_sent f) parts ∙ is.speaks.bits) in
     let begun = added-is (Begun f me peer) log (call ∷ []) (option_to_list spoken.begun)

@@ -10,8 +10,9 @@ use Rattle.relay_core.specs.Answers.{outgo_by, outgo_of}
 use Rattle.relay_core.specs.Decided.{Newest, Offers, offered_by}
 use Rattle.relay_core.specs.Decides.{Decides}
 use Rattle.relay_core.specs.Follows.{Signals}
-use Rattle.relay_core.specs.Log.{Call, is_peer, peers}
-use Rattle.relay_core.specs.Log.Call.{sends}
+use Rattle.relay_core.specs.Log.{is_peer, peers}
+use Rattle.relay_core.specs.declared.call.Call.{Call}
+use Rattle.relay_core.specs.declared.call.Call.TheVariants as made
 use Rattle.relay_core.specs.Sends.{AllSend}
 use Rattle.relay_core.specs.StandsFor.{Kept, StandsFor, span_with}
 use Rattle.relay_core.specs.Turned.{IsCalmTrue}
@@ -58,10 +59,10 @@ calm-sent me time newest old new outs send calm k d inside =
 
 pub Served-sends : (t : Kept) (log : List Call) (at : ℕ) (span : Span) (new : List Peer) (outs : List Outgoing)
     → StandsFor t log → span ≡ span_with t.span at → AllSend t.me span.now t.newest t.peers new outs
-    → IsServed t log (sends at) span t.newest t.decider new
+    → IsServed t log (made.Slot at) span t.newest t.decider new
 Served-sends t log at span new outs stands is_span send =
     let f = t.settings in
-    let call = sends at in
+    let call = made.Slot at in
     let offers = Offers-same f t.me log call refl in
     let time = (span-served t log call span stands is_span).time in
     record {
@@ -79,11 +80,11 @@ Served-sends t log at span new outs stands is_span send =
 
 pub outgo-sends : (t : Kept) (log : List Call) (at : ℕ) (span : Span) (new : List Peer) (outs : List Outgoing)
     → StandsFor t log → span ≡ span_with t.span at → AllSend t.me span.now t.newest t.peers new outs
-    → map outgo_of outs ≡ map (outgo_by t.settings t.me log (sends at)) (peers t.settings t.me)
+    → map outgo_of outs ≡ map (outgo_by t.settings t.me log (made.Slot at)) (peers t.settings t.me)
 outgo-sends t log at span new outs stands is_span send =
     let f = t.settings in
-    let time = (span-served t log (sends at) span stands is_span).time in
-    map-alike outgo_of (λ p. outgo_by f t.me log (sends at) p.station) outs t.peers send.count
+    let time = (span-served t log (made.Slot at) span stands is_span).time in
+    map-alike outgo_of (λ p. outgo_by f t.me log (made.Slot at) p.station) outs t.peers send.count
     (λ k d e inside. (send.each k e e d inside).sends f log at (stands.follow k e inside) stands.newest time)
-    ∙ sym (map-mapped (outgo_by f t.me log (sends at)) (λ p. p.station) t.peers)
-    ∙ ap (map (outgo_by f t.me log (sends at))) stands.stations
+    ∙ sym (map-mapped (outgo_by f t.me log (made.Slot at)) (λ p. p.station) t.peers)
+    ∙ ap (map (outgo_by f t.me log (made.Slot at))) stands.stations

@@ -13,7 +13,8 @@ use Rattle.relay_core.specs.Answers.{changes_by, changes_of, judged_by, judgemen
 use Rattle.relay_core.specs.Decided.{Newest, Offers, offered_by}
 use Rattle.relay_core.specs.Decides.{Decides}
 use Rattle.relay_core.specs.Follows.{Follows, Signals}
-use Rattle.relay_core.specs.Log.{Call, clock, now, peers, since, stamp_of}
+use Rattle.relay_core.specs.Log.{clock, now, peers, since, stamp_of}
+use Rattle.relay_core.specs.declared.call.Call.{Call}
 use Rattle.relay_core.specs.StandsFor.{Kept, StandsFor, now_of, since_of, span_with}
 use Rattle.relay_core.specs.Turned.{IsCalmTrue, told, turned}
 use Rattle.relay_core.specs.declared.decider.Decider.{Decider}

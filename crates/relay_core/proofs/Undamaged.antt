@@ -20,8 +20,9 @@ use Rattle.sample_store.proofs.Alongs.{along-both}
 use Rattle.relay_core.specs.Accepted.{Accepted, Completed, is_addressed}
 use Rattle.relay_core.specs.Calls.{AreCalls, AreStations, IsCall}
 use Rattle.relay_core.specs.Line.{Line, messages_on, is_locked_from, rules_of}
-use Rattle.relay_core.specs.Log.{Call, now}
-use Rattle.relay_core.specs.Log.Call.{faults, hears, samples, sends}
+use Rattle.relay_core.specs.Log.{now}
+use Rattle.relay_core.specs.declared.call.Call.{Call}
+use Rattle.relay_core.specs.declared.call.Call.TheVariants as made
 use Rattle.relay_core.specs.Sent.{Slots, begins, begun_in, is_free, number_behind, ready, slot_by}
 use Rattle.relay_core.specs.declared.receipt.Receipt.{Receipt}
 use Rattle.relay_core.proofs.Begun.{AreFit, IsOwn, now-until, ready-own}
@@ -105,14 +106,14 @@ AreBegun-none f me peer = record {
 -- so the slots of a log are such slots
 AreBegun-call : (f : Fields) (me peer : ℕ) (before : List Call) (slots : List (Slot Contents)) (call : Call) → AreFit f me peer → AreCalls (before ++ call ∷ [])
     → AreBegun f me peer slots → AreBegun f me peer (slots ++ slot_by f me peer before slots call)
-AreBegun-call f me peer before slots (samples at values) fit calls begun = subst (AreBegun f me peer) (sym (append-nil slots)) begun
-AreBegun-call f me peer before slots (sends at) fit calls begun =
-    let time : ℕ = now (before ++ sends at ∷ []) in
-    let own = ready-own f me peer before time fit (All-front IsCall before (sends at ∷ []) calls) (now-until (before ++ sends at ∷ []) calls) in
+AreBegun-call f me peer before slots (made.Sample at values) fit calls begun = subst (AreBegun f me peer) (sym (append-nil slots)) begun
+AreBegun-call f me peer before slots (made.Slot at) fit calls begun =
+    let time : ℕ = now (before ++ made.Slot at ∷ []) in
+    let own = ready-own f me peer before time fit (All-front IsCall before (made.Slot at ∷ []) calls) (now-until (before ++ made.Slot at ∷ []) calls) in
     AreBegun-more f me peer slots (begins f.channels slots (ready f me peer before time)) (not (is_locked_from f peer before)) fit.channels.0
     (begun-can f me peer slots (ready f me peer before time) own) begun
-AreBegun-call f me peer before slots (hears at from bits) fit calls begun = subst (AreBegun f me peer) (sym (append-nil slots)) begun
-AreBegun-call f me peer before slots (faults at from) fit calls begun = subst (AreBegun f me peer) (sym (append-nil slots)) begun
+AreBegun-call f me peer before slots (made.Bits at from bits) fit calls begun = subst (AreBegun f me peer) (sym (append-nil slots)) begun
+AreBegun-call f me peer before slots (made.Fault at from) fit calls begun = subst (AreBegun f me peer) (sym (append-nil slots)) begun
 
 Slots-begun : (f : Fields) (me peer : ℕ) (log : List Call) → AreFit f me peer → AreCalls log → AreBegun f me peer (Slots f me peer log)
 Slots-begun f me peer log fit =

@@ -10,8 +10,9 @@ use Rattle.channel_alarm.specs.declared.alarm.Alarm.TheVariants as alarm
 use Rattle.relay_core.specs.Accepted.{accepted_among}
 use Rattle.relay_core.specs.AlarmState.{AlarmState}
 use Rattle.relay_core.specs.Answers.{news_of}
-use Rattle.relay_core.specs.Log.{Call, clock, peers}
-use Rattle.relay_core.specs.Log.Call.{samples, sends, hears, faults}
+use Rattle.relay_core.specs.Log.{clock, peers}
+use Rattle.relay_core.specs.declared.call.Call.{Call}
+use Rattle.relay_core.specs.declared.call.Call.TheVariants as made
 use Rattle.relay_core.specs.Sent.{Begun}
 use Rattle.relay_core.specs.declared.answers.News.TheVariants as news
 use Rattle.relay_core.specs.declared.receipt.Receipt.{Receipt}
@@ -45,7 +46,7 @@ stranger = refl
 
 -- two samples and the slots of twelve channels, of which a message takes three
 abbrev sending : List Call
-sending = samples 1000 zero ∷ sends 1000 ∷ sends 1125 ∷ samples 2000 zero ∷ sends 1250 ∷ sends 1375 ∷ sends 1500 ∷ sends 1625 ∷ sends 1750 ∷ []
+sending = made.Sample 1000 zero ∷ made.Slot 1000 ∷ made.Slot 1125 ∷ made.Sample 2000 zero ∷ made.Slot 1250 ∷ made.Slot 1375 ∷ made.Slot 1500 ∷ made.Slot 1625 ∷ made.Slot 1750 ∷ []
 
 -- the second begins behind the first, with the terminal's time, and neither begins again
 begun : map (λ m. m.number) (Begun (usual 2 12) 1 2 sending) ≡ 1 ∷ 2 ∷ []
@@ -56,7 +57,7 @@ begun_at : map (λ m. m.sent) (Begun (usual 2 12) 1 2 sending) ≡ 1000 ∷ 2000
 unfolding along_from
 begun_at = refl
 
-time : clock (sends 300 ∷ sends 200 ∷ []) ≡ Some 300
+time : clock (made.Slot 300 ∷ made.Slot 200 ∷ []) ≡ Some 300
 time = refl
 
 no_time : clock [] ≡ None
@@ -75,24 +76,24 @@ is_on_after log alarm = AlarmState (usual 2 5) 1 2 log alarm
 off : is_on_after [] alarm.Unlocked ≡ false
 off = refl
 
-unlocked : is_on_after (sends 0 ∷ []) alarm.Unlocked ≡ true
+unlocked : is_on_after (made.Slot 0 ∷ []) alarm.Unlocked ≡ true
 unfolding frames steps
 unlocked = refl
 
-unaligned : is_on_after (sends 0 ∷ []) alarm.Unaligned ≡ true
+unaligned : is_on_after (made.Slot 0 ∷ []) alarm.Unaligned ≡ true
 unfolding along_from told_behind frames steps
 unaligned = refl
 
-quiet : is_on_after (sends 100 ∷ sends 20100 ∷ []) alarm.Silent ≡ false
+quiet : is_on_after (made.Slot 100 ∷ made.Slot 20100 ∷ []) alarm.Silent ≡ false
 unfolding along_from told_behind frames steps
 quiet = refl
 
-silent : is_on_after (sends 100 ∷ sends 20101 ∷ []) alarm.Silent ≡ true
+silent : is_on_after (made.Slot 100 ∷ made.Slot 20101 ∷ []) alarm.Silent ≡ true
 unfolding along_from told_behind frames steps
 silent = refl
 
-faulty : is_on_after (faults 0 2 ∷ samples 1000 zero ∷ hears 1100 3 (1 ∷ []) ∷ []) alarm.Fault ≡ true
+faulty : is_on_after (made.Fault 0 2 ∷ made.Sample 1000 zero ∷ made.Bits 1100 3 (1 ∷ []) ∷ []) alarm.Fault ≡ true
 faulty = refl
 
-mended : is_on_after (faults 0 2 ∷ hears 100 2 [] ∷ []) alarm.Fault ≡ false
+mended : is_on_after (made.Fault 0 2 ∷ made.Bits 100 2 [] ∷ []) alarm.Fault ≡ false
 mended = refl

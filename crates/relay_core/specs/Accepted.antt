@@ -7,7 +7,8 @@ use Rattle.offset_track.specs.InForce.{InForce}
 use Rattle.relay_message.specs.Messages.{added}
 use Rattle.sample_store.specs.Along.{along}
 use Rattle.relay_core.specs.Line.{Messages}
-use Rattle.relay_core.specs.Log.{Call, now}
+use Rattle.relay_core.specs.Log.{now}
+use Rattle.relay_core.specs.declared.call.Call.{Call}
 use Rattle.relay_core.specs.declared.receipt.Receipt.{Receipt}
 
 -- the messages that a call completes

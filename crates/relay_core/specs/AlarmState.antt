@@ -8,8 +8,9 @@ use Rattle.channel_alarm.specs.declared.alarm.Alarm.{Alarm}
 use Rattle.channel_alarm.specs.declared.alarm.Facts.{Facts}
 use Rattle.relay_core.specs.Accepted.{Accepted, InForceWith, last_of}
 use Rattle.relay_core.specs.Line.{Gots, is_locked_from}
-use Rattle.relay_core.specs.Log.{Call, now, since}
-use Rattle.relay_core.specs.Log.Call.{samples, sends, hears, faults}
+use Rattle.relay_core.specs.Log.{now, since}
+use Rattle.relay_core.specs.declared.call.Call.{Call}
+use Rattle.relay_core.specs.declared.call.Call.TheVariants as made
 use Rattle.relay_core.specs.declared.receipt.Receipt.{Receipt}
 
 -- the yellow bit after a frame: that of a good one, and else as before
@@ -23,10 +24,10 @@ last_yellow gots = fold yellow_after false gots
 
 -- whether a call on a wire to or from a peer failed and no bits of it came since
 abbrev pub faulty_after : ℕ → Bool → Call → Bool
-faulty_after peer faulty (samples at values) = faulty
-faulty_after peer faulty (sends at) = faulty
-faulty_after peer faulty (hears at from bits) = if from == peer then false else faulty
-faulty_after peer faulty (faults at from) = if from == peer then true else faulty
+faulty_after peer faulty (made.Sample at values) = faulty
+faulty_after peer faulty (made.Slot at) = faulty
+faulty_after peer faulty (made.Bits at from bits) = if from == peer then false else faulty
+faulty_after peer faulty (made.Fault at from) = if from == peer then true else faulty
 
 abbrev pub is_faulty : ℕ → List Call → Bool
 is_faulty peer log = fold (faulty_after peer) false log

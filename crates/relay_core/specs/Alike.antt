@@ -1,6 +1,6 @@
 -- Two terminals that were handed the same.
 use Rattle.std.specs.Prelude.{◌≡◌, List}
-use Rattle.relay_core.specs.Log.{Call}
+use Rattle.relay_core.specs.declared.call.Call.{Call}
 use Rattle.relay_core.specs.StandsFor.{Kept, StandsFor}
 
 -- two terminals of one station, with the same settings, that stand for one log

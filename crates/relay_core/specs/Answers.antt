@@ -1,5 +1,5 @@
 -- What a terminal answers to a call, by its log before the call and with it.
-use Rattle.std.specs.Prelude.{ℕ, ◌+◌, nat_le, if◌then◌else◌, List, [], ◌∷◌, ◌++◌, map, Option, None, Some, slice_get}
+use Rattle.std.specs.Prelude.{ℕ, ◌+◌, nat_le, if◌then◌else◌, List, [], ◌∷◌, ◌++◌, map, Option, None, Some, reverse, slice_get}
 use Rattle.std.specs.List.{flat_map}
 use Rattle.std.specs.Option.{option_to_list}
 use Rattle.ld_base.specs.Message.{Contents}
@@ -25,7 +25,8 @@ use Rattle.relay_core.specs.Accepted.{Accepted, Exchanges, InForceWith, is_addre
 use Rattle.relay_core.specs.AlarmState.{AlarmState}
 use Rattle.relay_core.specs.Decided.{JudgedSets, Offers, accepted_by, values_by}
 use Rattle.relay_core.specs.Line.{Messages, Refusals}
-use Rattle.relay_core.specs.Log.{Call, peers}
+use Rattle.relay_core.specs.Log.{peers}
+use Rattle.relay_core.specs.declared.call.Call.{Call}
 use Rattle.relay_core.specs.Sent.{Begun, Sent}
 use Rattle.relay_core.specs.declared.answers.Change.{Change}
 use Rattle.relay_core.specs.declared.answers.Judged.{Judged}
@@ -49,6 +50,10 @@ judgements f sets before more = map (judgement f (sets (before ++ more))) (added
 -- what is judged with a call
 abbrev pub judged_by : Fields → ℕ → List Call → Call → List Judged
 judged_by f me log call = judgements f (JudgedSets f me) log (call ∷ [])
+
+-- the last set judged
+abbrev pub last_judged : Fields → ℕ → List Call → Option SampleSet
+last_judged f me log = slice_get (reverse (JudgedSets f me log)) 0
 
 -- how the alarms of a peer change with a call
 abbrev pub changes_of : Fields → ℕ → List Call → Call → ℕ → List Change

@@ -14,8 +14,9 @@ use Rattle.sample_store.specs.declared.ring.Numbered.{Numbered}
 use Rattle.sample_store.specs.declared.store.OwnTaken.{OwnTaken}
 use Rattle.sample_store.specs.declared.store.OwnTaken.TheVariants.{Took, OffGrid, Again}
 use Rattle.relay_core.specs.Accepted.{Accepted, InForceWith}
-use Rattle.relay_core.specs.Log.{Call, now}
-use Rattle.relay_core.specs.Log.Call.{samples, sends, hears, faults}
+use Rattle.relay_core.specs.Log.{now}
+use Rattle.relay_core.specs.declared.call.Call.{Call}
+use Rattle.relay_core.specs.declared.call.Call.TheVariants as made
 use Rattle.relay_core.specs.declared.receipt.Receipt.{Receipt}
 
 -- the messages from a peer that are accepted with a call
@@ -33,10 +34,10 @@ values_by f me peer before call =
 
 -- what a call offers to be put under a number
 abbrev pub offered_by : Fields → ℕ → List Call → Call → List Offer
-offered_by f me before (samples at values) = Own (now (before ++ samples at values ∷ [])) values ∷ []
-offered_by f me before (sends at) = []
-offered_by f me before (hears at peer bits) = values_by f me peer before (hears at peer bits)
-offered_by f me before (faults at peer) = []
+offered_by f me before (made.Sample at values) = Own (now (before ++ made.Sample at values ∷ [])) values ∷ []
+offered_by f me before (made.Slot at) = []
+offered_by f me before (made.Bits at peer bits) = values_by f me peer before (made.Bits at peer bits)
+offered_by f me before (made.Fault at peer) = []
 
 -- all that station `me` is offered: own samples at its time, and peers' values
 abbrev pub Offers : Fields → ℕ → List Call → List Offer

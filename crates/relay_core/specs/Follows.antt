@@ -18,8 +18,9 @@ use Rattle.relay_core.specs.Answers.{chosen_by, news_by, news_in, outgo_by, outg
 use Rattle.relay_core.specs.Decided.{Newest, values_by}
 use Rattle.relay_core.specs.Line.{Gots, Line}
 use Rattle.relay_core.specs.Listens.{Listens}
-use Rattle.relay_core.specs.Log.{Call, now}
-use Rattle.relay_core.specs.Log.Call.{sends}
+use Rattle.relay_core.specs.Log.{now}
+use Rattle.relay_core.specs.declared.call.Call.{Call}
+use Rattle.relay_core.specs.declared.call.Call.TheVariants as made
 use Rattle.relay_core.specs.Sent.{Slots}
 use Rattle.relay_core.specs.Talks.{Talks}
 use Rattle.relay_core.specs.Turned.{IsCalmTrue}
@@ -98,7 +99,7 @@ pub record SendsSlot (me time : ℕ) (newest : Option Numbered) (old new : Peer)
   pub station : new.station ≡ old.station
   pub alarms : new.alarms ≡ old.alarms
   pub calm : IsCalmTrue old → IsCalmTrue new
-  pub follows : (f : Fields) (log : List Call) (at : ℕ) → Follows f me log old → newest ≡ Newest f me log → time ≡ now (log ++ sends at ∷ [])
-      → Follows f me (log ++ sends at ∷ []) new
-  pub sends : (f : Fields) (log : List Call) (at : ℕ) → Follows f me log old → newest ≡ Newest f me log → time ≡ now (log ++ sends at ∷ [])
-      → outgo_of out ≡ outgo_by f me log (sends at) old.station
+  pub follows : (f : Fields) (log : List Call) (at : ℕ) → Follows f me log old → newest ≡ Newest f me log → time ≡ now (log ++ made.Slot at ∷ [])
+      → Follows f me (log ++ made.Slot at ∷ []) new
+  pub sends : (f : Fields) (log : List Call) (at : ℕ) → Follows f me log old → newest ≡ Newest f me log → time ≡ now (log ++ made.Slot at ∷ [])
+      → outgo_of out ≡ outgo_by f me log (made.Slot at) old.station

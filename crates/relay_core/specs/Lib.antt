@@ -7,11 +7,13 @@ pub mod Calm
 pub mod Decided
 pub mod Decides
 pub mod Follows
+pub mod IsAnswer
 pub mod Line
 pub mod Listens
 pub mod Log
 pub mod Sends
 pub mod Sent
 pub mod StandsFor
+pub mod StationLog
 pub mod Talks
 pub mod Turned

@@ -9,15 +9,15 @@ use Rattle.relay_message.specs.Messages.{line_of, messages, refusals}
 use Rattle.relay_message.specs.Reading.{relay_layout}
 use Rattle.relay_message.specs.declared.fault.MessageFault.{MessageFault}
 use Rattle.payload_map.specs.Pieces.{pieces}
-use Rattle.relay_core.specs.Log.{Call}
-use Rattle.relay_core.specs.Log.Call.{samples, sends, hears, faults}
+use Rattle.relay_core.specs.declared.call.Call.{Call}
+use Rattle.relay_core.specs.declared.call.Call.TheVariants as made
 
 -- the bits of the line from a peer that came with a call
 abbrev pub bits_from : ℕ → Call → List ℕ
-bits_from peer (samples at values) = []
-bits_from peer (sends at) = []
-bits_from peer (hears at from bits) = if from == peer then bits else []
-bits_from peer (faults at from) = []
+bits_from peer (made.Sample at values) = []
+bits_from peer (made.Slot at) = []
+bits_from peer (made.Bits at from bits) = if from == peer then bits else []
+bits_from peer (made.Fault at from) = []
 
 -- Line: all bits that came from a peer, joined in order
 abbrev pub Line : ℕ → List Call → List ℕ

@@ -1,21 +1,15 @@
 -- The log of a terminal: the calls that it was handed, oldest first, with their stamps. (This project's own.)
 use Rattle.std.specs.Prelude.{ℕ, Bool, max, nat_le, not, ◌&&◌, ◌==◌, List, [], ◌∷◌, fold, filter, Option, Some, None}
 use Rattle.ld_base.specs.declared.fields.Fields.{Fields}
-use Rattle.ld_base.specs.declared.phases.Phases.{Phases}
-
--- an own sample, a slot, bits of the line from a peer, or a failed call on a wire to or from a peer
-pub data Call : Type 0 where
-  samples : (at : ℕ) (values : Phases) → Call
-  sends : (at : ℕ) → Call
-  hears : (at peer : ℕ) (bits : List ℕ) → Call
-  faults : (at peer : ℕ) → Call
+use Rattle.relay_core.specs.declared.call.Call.{Call}
+use Rattle.relay_core.specs.declared.call.Call.TheVariants as made
 
 -- the stamp that was handed in
 abbrev pub stamp_of : Call → ℕ
-stamp_of (samples at values) = at
-stamp_of (sends at) = at
-stamp_of (hears at peer bits) = at
-stamp_of (faults at peer) = at
+stamp_of (made.Sample at values) = at
+stamp_of (made.Slot at) = at
+stamp_of (made.Bits at peer bits) = at
+stamp_of (made.Fault at peer) = at
 
 -- the terminal's time: the greatest stamp so far
 abbrev pub now : List Call → ℕ

@@ -12,8 +12,9 @@ use Rattle.payload_map.specs.Sent.{Slot, sent}
 use Rattle.relay_core.specs.Accepted.{Accepted, last_of}
 use Rattle.relay_core.specs.Decided.{Newest}
 use Rattle.relay_core.specs.Line.{is_locked_from, rules_of}
-use Rattle.relay_core.specs.Log.{Call, now}
-use Rattle.relay_core.specs.Log.Call.{samples, sends, hears, faults}
+use Rattle.relay_core.specs.Log.{now}
+use Rattle.relay_core.specs.declared.call.Call.{Call}
+use Rattle.relay_core.specs.declared.call.Call.TheVariants as made
 use Rattle.relay_core.specs.declared.receipt.Receipt.{Receipt}
 
 -- the messages that began in some slots
@@ -52,11 +53,11 @@ ready f me peer before at = option_map (message_of me peer at (echo_of (last_of 
 
 -- the slot of a call on the line to a peer
 abbrev pub slot_by : Fields → ℕ → ℕ → List Call → List (Slot Contents) → Call → List (Slot Contents)
-slot_by f me peer before slots (samples at values) = []
-slot_by f me peer before slots (sends at) =
-    record { loaded = begins f.channels slots (ready f me peer before (now (before ++ sends at ∷ []))); yellow = not (is_locked_from f peer before) } ∷ []
-slot_by f me peer before slots (hears at from bits) = []
-slot_by f me peer before slots (faults at from) = []
+slot_by f me peer before slots (made.Sample at values) = []
+slot_by f me peer before slots (made.Slot at) =
+    record { loaded = begins f.channels slots (ready f me peer before (now (before ++ made.Slot at ∷ []))); yellow = not (is_locked_from f peer before) } ∷ []
+slot_by f me peer before slots (made.Bits at from bits) = []
+slot_by f me peer before slots (made.Fault at from) = []
 
 -- the slots on the line to a peer
 abbrev pub Slots : Fields → ℕ → ℕ → List Call → List (Slot Contents)

@@ -5,7 +5,8 @@ use Rattle.sample_store.specs.declared.ring.Numbered.{Numbered}
 use Rattle.relay_core.specs.Decided.{Newest, Offers}
 use Rattle.relay_core.specs.Decides.{Decides}
 use Rattle.relay_core.specs.Follows.{Follows, Signals}
-use Rattle.relay_core.specs.Log.{Call, clock, peers, since}
+use Rattle.relay_core.specs.Log.{clock, peers, since}
+use Rattle.relay_core.specs.declared.call.Call.{Call}
 use Rattle.relay_core.specs.Turned.{IsCalmTrue}
 use Rattle.relay_core.specs.declared.decider.Decider.{Decider}
 use Rattle.relay_core.specs.declared.peer.Peer.{Peer}

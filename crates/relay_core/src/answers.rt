@@ -105,3 +105,16 @@ pub struct Heard {
     pub judged: Option<Judged>,
     pub changes: Changes,
 }
+
+/// What a terminal answers to a call.
+#[derive(Debug, Drop)]
+pub enum Answer {
+    /// To `Call::Sample`.
+    Sampled(Sampled),
+    /// To `Call::Slot`.
+    Slotted(Slotted),
+    /// To `Call::Bits`.
+    Heard(Heard),
+    /// To `Call::Fault`: the alarms that turned.
+    Faulted(Changes),
+}

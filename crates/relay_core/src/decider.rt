@@ -1,6 +1,6 @@
 //! From samples to verdicts: aligned samples, whole sets, and the trip rule over them.
 
-ghost use Rattle.std.specs.Prelude.{◌≡◌, ◌≤◌, ◌≢◌, ℕ, ℤ, List, [], ◌∷◌, ◌++◌, IfOk};
+ghost use Rattle.std.specs.Prelude.{◌≡◌, ◌≤◌, ◌≢◌, ℕ, ℤ, List, [], ◌∷◌, ◌++◌, IfOk, option_copied, reverse, slice_get};
 ghost use Rattle.std.specs.Option.{option_to_list};
 ghost use Rattle.ld_base.specs.declared.fields.Fields.{Fields};
 ghost use Rattle.sample_store.specs.Answers.{own_answer, place_answer};
@@ -10,7 +10,7 @@ ghost use Rattle.sample_store.specs.Offers.{Offer, Own, Value, Taken, next_numbe
 ghost use Rattle.sample_store.specs.declared.ring.Numbered.{Numbered};
 
 use crate::Judged;
-use ld_base::{NoMemory, Phases, Settings, Station, Ticks};
+use ld_base::{NoMemory, Phases, SampleSet, Settings, Station, Ticks};
 use offset_track::Fresh;
 use sample_store::{OwnTaken, Placed, Store};
 use std::alloc::Global;
@@ -82,6 +82,14 @@ impl Decider {
         let placed = self.store.place(fresh, peer, number, v);
         let judged = self.judge(now, number_stored(placed));
         (placed, judged)
+    }
+
+    /// The last set judged.
+    pub(crate) fn last(&self) -> Option<&SampleSet>
+        ensures { (f : Fields) (me : ℕ) (offers : List Offer) → 1 ≤ f.count → Decides f me self.now offers
+            → option_copied result ≡ slice_get (reverse (JudgedSet f me offers)) 0 }
+    {
+        self.trip.cause(0)
     }
 
     // Judges the set of the value that was put, where that made it whole.

@@ -2,22 +2,21 @@
 
 ghost use Rattle.std.specs.Prelude.{◌≡◌, ◌≤◌, ◌*◌, ◌/◌, ◌++◌, ◌∷◌, [], ℕ, None, List, length, map, take, slice_get};
 ghost use Rattle.std.specs.List.{flat_map};
-ghost use Rattle.std.specs.Option.{ForSome, option_to_list};
+ghost use Rattle.std.specs.Option.{ForSome};
 ghost use Rattle.ld_base.specs.Settings.{setting_fault};
 ghost use Rattle.ld_base.specs.declared.fields.Fields.{Fields};
 ghost use Rattle.payload_map.specs.Sent.{whole};
 ghost use Rattle.relay_core.specs.Accepted.{Accepted};
 ghost use Rattle.relay_core.specs.Alike.{AreAlike};
-ghost use Rattle.relay_core.specs.Answers.{changes_by, chosen_by, judged_by, news_by, news_in, outgo_by, outgo_of, own_at, placed_by, refused_by, taken_by};
+ghost use Rattle.relay_core.specs.Answers.{changes_by, outgo_of};
 ghost use Rattle.relay_core.specs.Calls.{AreCalls, AreStations};
-ghost use Rattle.relay_core.specs.Line.{Gots, Line};
-ghost use Rattle.relay_core.specs.Log.{Call, peers};
-ghost use Rattle.relay_core.specs.Log as log;
-ghost use Rattle.relay_core.specs.Log.Call.{faults, hears, samples, sends};
+ghost use Rattle.relay_core.specs.IsAnswer.{IsHeard, IsSampled, IsSlotted};
+ghost use Rattle.relay_core.specs.Line.{Line};
+ghost use Rattle.relay_core.specs.declared.call.Call.{Call};
+ghost use Rattle.relay_core.specs.declared.call.Call.TheVariants as made;
 ghost use Rattle.relay_core.specs.Sent.{Sent, Slots};
 ghost use Rattle.relay_core.specs.StandsFor.{IsPeerOf, StandsFor};
 ghost use Rattle.relay_message.specs.MessageOf.{spelled};
-ghost use Rattle.relay_message.specs.Messages.{added};
 
 use crate::{Changes, Heard, Sampled, Slotted, Terminal};
 use ld_base::{Chunk, Phases, Station, Ticks};
@@ -35,13 +34,9 @@ pub fn samples_are_answered_alike(
     ensures judged { result.0.judged ≡ result.1.judged }
     ensures changes { result.0.changes.items ≡ result.1.changes.items }
     ensures alike { AreAlike one.new other.new }
-    ensures own_by_log { (calls : List Call) → StandsFor one.old calls
-        → result.0.own ≡ own_at one.old.settings one.old.me calls (log.now (calls ++ samples now v ∷ [])) }
-    ensures judged_by_log { (calls : List Call) → StandsFor one.old calls
-        → judged_by one.old.settings one.old.me calls (samples now v) ≡ option_to_list result.0.judged }
-    ensures changes_by_log { (calls : List Call) → StandsFor one.old calls
-        → result.0.changes.items ≡ changes_by one.old.settings one.old.me calls (samples now v) }
-    ensures stands { (calls : List Call) → StandsFor one.old calls → StandsFor one.new (calls ++ samples now v ∷ []) }
+    ensures by_log { (calls : List Call) → StandsFor one.old calls
+        → IsSampled one.old.settings one.old.me calls (made.Sample now v) result.0 }
+    ensures stands { (calls : List Call) → StandsFor one.old calls → StandsFor one.new (calls ++ made.Sample now v ∷ []) }
 {
     (one.sample(now, v), other.sample(now, v))
 }
@@ -56,11 +51,9 @@ pub fn slots_are_answered_alike(
     ensures frames { map outgo_of result.0.frames.items ≡ map outgo_of result.1.frames.items }
     ensures changes { result.0.changes.items ≡ result.1.changes.items }
     ensures alike { AreAlike one.new other.new }
-    ensures frames_by_log { (calls : List Call) → StandsFor one.old calls
-        → map outgo_of result.0.frames.items ≡ map (outgo_by one.old.settings one.old.me calls (sends now)) (peers one.old.settings one.old.me) }
-    ensures changes_by_log { (calls : List Call) → StandsFor one.old calls
-        → result.0.changes.items ≡ changes_by one.old.settings one.old.me calls (sends now) }
-    ensures stands { (calls : List Call) → StandsFor one.old calls → StandsFor one.new (calls ++ sends now ∷ []) }
+    ensures by_log { (calls : List Call) → StandsFor one.old calls
+        → IsSlotted one.old.settings one.old.me calls (made.Slot now) result.0 }
+    ensures stands { (calls : List Call) → StandsFor one.old calls → StandsFor one.new (calls ++ made.Slot now ∷ []) }
 {
     (one.slot(now), other.slot(now))
 }
@@ -84,23 +77,9 @@ pub fn bits_are_answered_alike(
     ensures judged { result.0.judged ≡ result.1.judged }
     ensures changes { result.0.changes.items ≡ result.1.changes.items }
     ensures alike { AreAlike one.new other.new }
-    ensures frame_by_log { (calls : List Call) → StandsFor one.old calls
-        → added (Gots one.old.settings peer) calls (hears now peer chunk.now ∷ []) ≡ option_to_list result.0.frame }
-    ensures news_by_log { (calls : List Call) → StandsFor one.old calls
-        → news_by one.old.settings one.old.me peer calls (hears now peer chunk.now) ≡ news_in result.0.news }
-    ensures refused_by_log { (calls : List Call) → StandsFor one.old calls
-        → result.0.refused ≡ refused_by one.old.settings peer calls (hears now peer chunk.now) }
-    ensures taken_by_log { (calls : List Call) → StandsFor one.old calls
-        → taken_by one.old.settings one.old.me peer calls (hears now peer chunk.now) ≡ option_to_list result.0.taken }
-    ensures chosen_by_log { (calls : List Call) → StandsFor one.old calls
-        → chosen_by one.old.settings one.old.me peer calls (hears now peer chunk.now) ≡ option_to_list result.0.chosen }
-    ensures placed_by_log { (calls : List Call) → StandsFor one.old calls
-        → placed_by one.old.settings one.old.me peer calls (hears now peer chunk.now) ≡ option_to_list result.0.placed }
-    ensures judged_by_log { (calls : List Call) → StandsFor one.old calls
-        → judged_by one.old.settings one.old.me calls (hears now peer chunk.now) ≡ option_to_list result.0.judged }
-    ensures changes_by_log { (calls : List Call) → StandsFor one.old calls
-        → result.0.changes.items ≡ changes_by one.old.settings one.old.me calls (hears now peer chunk.now) }
-    ensures stands { (calls : List Call) → StandsFor one.old calls → StandsFor one.new (calls ++ hears now peer chunk.now ∷ []) }
+    ensures by_log { (calls : List Call) → StandsFor one.old calls
+        → IsHeard one.old.settings one.old.me peer calls (made.Bits now peer chunk.now) result.0 }
+    ensures stands { (calls : List Call) → StandsFor one.old calls → StandsFor one.new (calls ++ made.Bits now peer chunk.now ∷ []) }
 {
     (one.bits(now, peer, chunk), other.bits(now, peer, chunk))
 }
@@ -117,8 +96,8 @@ pub fn faults_are_answered_alike(
     ensures changes { result.0.items ≡ result.1.items }
     ensures alike { AreAlike one.new other.new }
     ensures changes_by_log { (calls : List Call) → StandsFor one.old calls
-        → result.0.items ≡ changes_by one.old.settings one.old.me calls (faults now peer) }
-    ensures stands { (calls : List Call) → StandsFor one.old calls → StandsFor one.new (calls ++ faults now peer ∷ []) }
+        → result.0.items ≡ changes_by one.old.settings one.old.me calls (made.Fault now peer) }
+    ensures stands { (calls : List Call) → StandsFor one.old calls → StandsFor one.new (calls ++ made.Fault now peer ∷ []) }
 {
     (one.fault(now, peer), other.fault(now, peer))
 }

@@ -2,6 +2,8 @@
 #![tactic(auto)]
 
 mod answers;
+mod apply;
+mod call;
 mod calm;
 mod decider;
 pub mod laws;
@@ -11,7 +13,8 @@ mod receipt;
 mod talker;
 mod terminal;
 
-pub use answers::{Change, Changes, Heard, Judged, News, Outgoing, Sampled, Slotted};
+pub use answers::{Answer, Change, Changes, Heard, Judged, News, Outgoing, Sampled, Slotted};
+pub use call::Call;
 pub use terminal::Terminal;
 
 #[cfg(test)]

@@ -12,8 +12,8 @@ ghost use Rattle.relay_core.specs.Answers.{news_in, news_of, taken_of};
 ghost use Rattle.relay_core.specs.Calm.{holds};
 ghost use Rattle.relay_core.specs.Follows.{Brings, Follows, SendsSlot, Signals, brought_in, exchanges_in, fresh_in, last_after};
 ghost use Rattle.relay_core.specs.declared.answers.News.TheVariants as news;
-ghost use Rattle.relay_core.specs.Log.{Call};
-ghost use Rattle.relay_core.specs.Log.Call.{faults, hears};
+ghost use Rattle.relay_core.specs.declared.call.Call.{Call};
+ghost use Rattle.relay_core.specs.declared.call.Call.TheVariants as made;
 ghost use Rattle.relay_core.specs.Log as log;
 ghost use Rattle.relay_core.specs.Sent.{echo_of, message_of};
 ghost use Rattle.relay_core.specs.Talks.{Begins, Talks};
@@ -81,11 +81,11 @@ impl Peer {
         ensures calm { IsCalmTrue self.new }
         ensures at { ForSome result (λ chosen. chosen.at ≡ now) }
         ensures follows { (f : Fields) (calls : List Call) (at : ℕ) → Follows f me calls self.old
-            → now ≡ log.now (calls ++ hears at self.old.station chunk.now ∷ [])
-            → Follows f me (calls ++ hears at self.old.station chunk.now ∷ []) self.new }
+            → now ≡ log.now (calls ++ made.Bits at self.old.station chunk.now ∷ [])
+            → Follows f me (calls ++ made.Bits at self.old.station chunk.now ∷ []) self.new }
         ensures brings { (f : Fields) (calls : List Call) (at : ℕ) → Follows f me calls self.old
-            → now ≡ log.now (calls ++ hears at self.old.station chunk.now ∷ [])
-            → Brings f me calls self.old.station (hears at self.old.station chunk.now) (brought_in heard.new result) }
+            → now ≡ log.now (calls ++ made.Bits at self.old.station chunk.now ∷ [])
+            → Brings f me calls self.old.station (made.Bits at self.old.station chunk.now) (brought_in heard.new result) }
         ensures rest { heard.new ≡ record heard.old { frame = heard.new.frame; news = heard.new.news; refused = heard.new.refused; taken = heard.new.taken } }
     {
         let before = self.state();
@@ -165,7 +165,7 @@ impl Peer {
         ensures alarms { self.new.alarms ≡ self.old.alarms }
         ensures calm { IsCalmTrue self.new }
         ensures follows { (f : Fields) (me at : ℕ) (calls : List Call) → Follows f me calls self.old
-            → Follows f me (calls ++ faults at self.old.station ∷ []) self.new }
+            → Follows f me (calls ++ made.Fault at self.old.station ∷ []) self.new }
     {
         self.faulty = true;
         self.calm = Calm::never();

@@ -1,30 +1,30 @@
 //! The calls of a terminal.
 
-ghost use Rattle.std.specs.Prelude.{◌≡◌, ◌≢◌, ◌≤◌, ◌++◌, ◌∷◌, [], ℕ, List, IfOk, None, OnOk, All, filter, length, map, Some, slice_get, option_map};
+ghost use Rattle.std.specs.Prelude.{◌≡◌, ◌≢◌, ◌≤◌, ◌++◌, ◌∷◌, [], ℕ, List, IfOk, None, OnOk, All, filter, length, map, Some, option_copied, option_map, slice_get};
 ghost use Rattle.std.specs.List.{flat_map};
 ghost use Rattle.std.specs.Option.{ForSome, option_to_list};
 ghost use Rattle.ld_base.specs.declared.fields.Fields.{Fields};
-ghost use Rattle.relay_core.specs.Answers.{changes_by, chosen_by, judged_by, judgements, news_by, news_in, outgo_by, outgo_of, own_at, placed_by, placed_of, refused_by, taken_by};
+ghost use Rattle.relay_core.specs.Answers.{changes_by, judgements, last_judged, placed_of};
 ghost use Rattle.sample_store.specs.JudgedSet.{JudgedSet};
 ghost use Rattle.sample_store.specs.Offers.{Offer};
 ghost use Rattle.relay_core.specs.Decides.{Decides};
 ghost use Rattle.relay_core.specs.Decided.{newest_after};
 ghost use Rattle.relay_core.specs.Follows.{Follows, Signals, values_in};
-ghost use Rattle.relay_core.specs.Line.{Gots};
-ghost use Rattle.relay_core.specs.Log.{Call, clock, is_peer, peers};
+ghost use Rattle.relay_core.specs.IsAnswer.{IsHeard, IsSampled, IsSlotted};
+ghost use Rattle.relay_core.specs.Log.{clock, is_peer};
+ghost use Rattle.relay_core.specs.declared.call.Call.{Call};
 ghost use Rattle.relay_core.specs.Log as log;
-ghost use Rattle.relay_core.specs.Log.Call.{faults, hears, samples, sends};
+ghost use Rattle.relay_core.specs.declared.call.Call.TheVariants as made;
 ghost use Rattle.relay_core.specs.Sends.{SendsAll};
 ghost use Rattle.relay_core.specs.StandsFor.{IsPeerOf, StandsFor, span_with};
 ghost use Rattle.relay_core.specs.Turned.{IsCalmTrue, told, turned};
 ghost use Rattle.relay_core.specs.declared.answers.News.TheVariants as news;
-ghost use Rattle.relay_message.specs.Messages.{added};
 
 use crate::decider::Decider;
 use crate::peer::Peer;
 use crate::{Changes, Heard, Judged, News, Outgoing, Sampled, Slotted};
 use arrayvec::ArrayVec;
-use ld_base::{Chunk, NoMemory, Phases, Settings, Station, Ticks};
+use ld_base::{Chunk, NoMemory, Phases, SampleSet, Settings, Station, Ticks};
 use offset_track::Fresh;
 use sample_store::{Numbered, OwnTaken, Placed};
 use std::alloc::Global;
@@ -83,17 +83,22 @@ impl Terminal {
         Some(self.span?.now)
     }
 
+    /// The last set judged. None exactly where none was.
+    pub fn last_set(&self) -> Option<&SampleSet>
+        ensures { (calls : List Call) → StandsFor self.now calls → option_copied result ≡ last_judged self.now.settings self.now.me calls }
+    {
+        // A trip needs a set at least, so the last one is kept.
+        let _ = self.settings.fields();
+        self.decider.last()
+    }
+
     /// Takes an own sample, and judges the set that it completes.
     #[inline(never)]
     pub fn sample(&mut self, now: Ticks, v: Phases) -> Sampled
         ensures settings { (self.new.settings ≡ self.old.settings) × (self.new.me ≡ self.old.me) }
-        ensures own { (calls : List Call) → StandsFor self.old calls
-            → result.own ≡ own_at self.old.settings self.old.me calls (log.now (calls ++ samples now v ∷ [])) }
-        ensures judged { (calls : List Call) → StandsFor self.old calls
-            → judged_by self.old.settings self.old.me calls (samples now v) ≡ option_to_list result.judged }
-        ensures changes { (calls : List Call) → StandsFor self.old calls
-            → result.changes.items ≡ changes_by self.old.settings self.old.me calls (samples now v) }
-        ensures stands { (calls : List Call) → StandsFor self.old calls → StandsFor self.new (calls ++ samples now v ∷ []) }
+        ensures answer { (calls : List Call) → StandsFor self.old calls
+            → IsSampled self.old.settings self.old.me calls (made.Sample now v) result }
+        ensures stands { (calls : List Call) → StandsFor self.old calls → StandsFor self.new (calls ++ made.Sample now v ∷ []) }
     {
         let span = span_with(self.span, now);
         let (since, now) = (span.since, span.now);
@@ -113,11 +118,9 @@ impl Terminal {
     #[inline(never)]
     pub fn slot(&mut self, now: Ticks) -> Slotted
         ensures settings { (self.new.settings ≡ self.old.settings) × (self.new.me ≡ self.old.me) }
-        ensures frames { (calls : List Call) → StandsFor self.old calls
-            → map outgo_of result.frames.items ≡ map (outgo_by self.old.settings self.old.me calls (sends now)) (peers self.old.settings self.old.me) }
-        ensures changes { (calls : List Call) → StandsFor self.old calls
-            → result.changes.items ≡ changes_by self.old.settings self.old.me calls (sends now) }
-        ensures stands { (calls : List Call) → StandsFor self.old calls → StandsFor self.new (calls ++ sends now ∷ []) }
+        ensures answer { (calls : List Call) → StandsFor self.old calls
+            → IsSlotted self.old.settings self.old.me calls (made.Slot now) result }
+        ensures stands { (calls : List Call) → StandsFor self.old calls → StandsFor self.new (calls ++ made.Slot now ∷ []) }
     {
         let span = span_with(self.span, now);
         let (since, now) = (span.since, span.now);
@@ -142,24 +145,10 @@ impl Terminal {
     pub fn bits(&mut self, now: Ticks, peer: Station, chunk: &Chunk) -> Heard
         requires { IsPeerOf self.old peer }
         ensures settings { (self.new.settings ≡ self.old.settings) × (self.new.me ≡ self.old.me) }
-        ensures frame { (calls : List Call) → StandsFor self.old calls
-            → added (Gots self.old.settings peer) calls (hears now peer chunk.now ∷ []) ≡ option_to_list result.frame }
-        ensures news { (calls : List Call) → StandsFor self.old calls
-            → news_by self.old.settings self.old.me peer calls (hears now peer chunk.now) ≡ news_in result.news }
-        ensures refused { (calls : List Call) → StandsFor self.old calls
-            → result.refused ≡ refused_by self.old.settings peer calls (hears now peer chunk.now) }
-        ensures taken { (calls : List Call) → StandsFor self.old calls
-            → taken_by self.old.settings self.old.me peer calls (hears now peer chunk.now) ≡ option_to_list result.taken }
-        ensures chosen { (calls : List Call) → StandsFor self.old calls
-            → chosen_by self.old.settings self.old.me peer calls (hears now peer chunk.now) ≡ option_to_list result.chosen }
-        ensures placed { (calls : List Call) → StandsFor self.old calls
-            → placed_by self.old.settings self.old.me peer calls (hears now peer chunk.now) ≡ option_to_list result.placed }
-        ensures judged { (calls : List Call) → StandsFor self.old calls
-            → judged_by self.old.settings self.old.me calls (hears now peer chunk.now) ≡ option_to_list result.judged }
-        ensures changes { (calls : List Call) → StandsFor self.old calls
-            → result.changes.items ≡ changes_by self.old.settings self.old.me calls (hears now peer chunk.now) }
+        ensures answer { (calls : List Call) → StandsFor self.old calls
+            → IsHeard self.old.settings self.old.me peer calls (made.Bits now peer chunk.now) result }
         ensures stands { (calls : List Call) → StandsFor self.old calls
-            → StandsFor self.new (calls ++ hears now peer chunk.now ∷ []) }
+            → StandsFor self.new (calls ++ made.Bits now peer chunk.now ∷ []) }
     {
         let span = span_with(self.span, now);
         let (since, now) = (span.since, span.now);
@@ -177,8 +166,8 @@ impl Terminal {
         requires { IsPeerOf self.old peer }
         ensures settings { (self.new.settings ≡ self.old.settings) × (self.new.me ≡ self.old.me) }
         ensures changes { (calls : List Call) → StandsFor self.old calls
-            → result.items ≡ changes_by self.old.settings self.old.me calls (faults now peer) }
-        ensures stands { (calls : List Call) → StandsFor self.old calls → StandsFor self.new (calls ++ faults now peer ∷ []) }
+            → result.items ≡ changes_by self.old.settings self.old.me calls (made.Fault now peer) }
+        ensures stands { (calls : List Call) → StandsFor self.old calls → StandsFor self.new (calls ++ made.Fault now peer ∷ []) }
     {
         let span = span_with(self.span, now);
         let (since, now) = (span.since, span.now);

@@ -9,6 +9,7 @@ use std::alloc::Global;
 use std::test::Fail;
 use trip_logic::Verdict;
 
+mod calls;
 mod channel;
 mod terminals;
 mod two_ends;

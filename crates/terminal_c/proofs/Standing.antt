@@ -1,7 +1,7 @@
 -- A handle whose terminal takes a call stands for the log with that call.
 use Rattle.std.proofs.Common.{◌≡◌, ℕ, List, ◌++◌, sym, ◌∙◌, subst, Some, Option, None, ap}
 use Rattle.ld_base.specs.declared.fields.Fields.{Fields}
-use Rattle.relay_core.specs.Log.{Call}
+use Rattle.relay_core.specs.declared.call.Call.{Call}
 use Rattle.relay_core.specs.StandsFor.{Kept, StandsFor}
 use Rattle.terminal_c.specs.Stands.{Stands}
 use Rattle.terminal_c.specs.declared.handle.Handle.{Handle}

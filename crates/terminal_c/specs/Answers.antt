@@ -4,7 +4,8 @@ use Rattle.ld_base.specs.declared.fields.Fields.{Fields}
 use Rattle.relay_message.specs.Messages.{added}
 use Rattle.relay_core.specs.Answers.{changes_by, chosen_by, judged_by, news_by, outgo_by, own_at, placed_by, refused_by, taken_by}
 use Rattle.relay_core.specs.Line.{Gots}
-use Rattle.relay_core.specs.Log.{Call, now, peers}
+use Rattle.relay_core.specs.Log.{now, peers}
+use Rattle.relay_core.specs.declared.call.Call.{Call}
 use Rattle.terminal_c.specs.Told.{fault_of, own_of, placed_of, taken_number, TellsChanges, TellsExchange, TellsFrame, TellsFrames, TellsJudged, TellsNews}
 use Rattle.terminal_c.specs.declared.flat.Heard.{Heard}
 use Rattle.terminal_c.specs.declared.flat.Sampled.{Sampled}

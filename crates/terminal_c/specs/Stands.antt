@@ -1,7 +1,7 @@
 -- What the terminal of a handle stands for.
 use Rattle.std.specs.Prelude.{◌≡◌, ℕ, List, Some}
 use Rattle.ld_base.specs.declared.fields.Fields.{Fields}
-use Rattle.relay_core.specs.Log.{Call}
+use Rattle.relay_core.specs.declared.call.Call.{Call}
 use Rattle.relay_core.specs.StandsFor.{Kept, StandsFor}
 use Rattle.terminal_c.specs.declared.flat.Settings.{Settings}
 use Rattle.terminal_c.specs.declared.handle.Handle.{Handle}

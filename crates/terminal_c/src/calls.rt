@@ -6,8 +6,8 @@ ghost use Rattle.ld_base.specs.Bits.{line_bits};
 ghost use Rattle.ld_base.specs.Settings.{setting_fault, usual};
 ghost use Rattle.ld_base.specs.declared.fields.Fields.{Fields};
 ghost use Rattle.relay_core.specs.Answers.{changes_by};
-ghost use Rattle.relay_core.specs.Log.{Call};
-ghost use Rattle.relay_core.specs.Log.Call.{faults, hears, samples, sends};
+ghost use Rattle.relay_core.specs.declared.call.Call.{Call};
+ghost use Rattle.relay_core.specs.declared.call.Call.TheVariants as made;
 ghost use Rattle.terminal_c.specs.Answers.{TellsBits, TellsSample, TellsSlot};
 ghost use Rattle.terminal_c.specs.Codes.{refusal_of};
 ghost use Rattle.terminal_c.specs.Stands.{Stands, fields_of};
@@ -42,9 +42,9 @@ pub extern "C" fn linediff_sample(
     ensures status { result ≡ status_number (stamp_status terminal.old now) }
     ensures refused { result ≢ 0 → (terminal.new ≡ terminal.old) × (told.new ≡ told.old) }
     ensures tells { (f : Fields) (me : ℕ) (log : List Call) → result ≡ 0 → Stands terminal.old f me log
-        → TellsSample f me log (samples now (record { a = a; b = b; c = c })) told.new }
+        → TellsSample f me log (made.Sample now (record { a = a; b = b; c = c })) told.new }
     ensures stands { (f : Fields) (me : ℕ) (log : List Call) → result ≡ 0 → Stands terminal.old f me log
-        → Stands terminal.new f me (log ++ samples now (record { a = a; b = b; c = c }) ∷ []) }
+        → Stands terminal.new f me (log ++ made.Sample now (record { a = a; b = b; c = c }) ∷ []) }
 {
     let stamp = match stamp_of(terminal, now) {
         Ok(stamp) => stamp,
@@ -68,9 +68,9 @@ pub extern "C" fn linediff_slot(
     ensures status { result ≡ status_number (stamp_status terminal.old now) }
     ensures refused { result ≢ 0 → (terminal.new ≡ terminal.old) × (told.new ≡ told.old) }
     ensures tells { (f : Fields) (me : ℕ) (log : List Call) → result ≡ 0 → Stands terminal.old f me log
-        → TellsSlot f me log (sends now) told.new }
+        → TellsSlot f me log (made.Slot now) told.new }
     ensures stands { (f : Fields) (me : ℕ) (log : List Call) → result ≡ 0 → Stands terminal.old f me log
-        → Stands terminal.new f me (log ++ sends now ∷ []) }
+        → Stands terminal.new f me (log ++ made.Slot now ∷ []) }
 {
     let stamp = match stamp_of(terminal, now) {
         Ok(stamp) => stamp,
@@ -95,9 +95,9 @@ pub extern "C" fn linediff_bits(
     ensures status { result ≡ status_number (bits_status terminal.old now peer bits.now.count) }
     ensures refused { result ≢ 0 → (terminal.new ≡ terminal.old) × (told.new ≡ told.old) }
     ensures tells { (f : Fields) (me : ℕ) (log : List Call) → result ≡ 0 → Stands terminal.old f me log
-        → TellsBits f me peer log (hears now peer (line_bits bits.now.count bits.now.bytes)) told.new }
+        → TellsBits f me peer log (made.Bits now peer (line_bits bits.now.count bits.now.bytes)) told.new }
     ensures stands { (f : Fields) (me : ℕ) (log : List Call) → result ≡ 0 → Stands terminal.old f me log
-        → Stands terminal.new f me (log ++ hears now peer (line_bits bits.now.count bits.now.bytes) ∷ []) }
+        → Stands terminal.new f me (log ++ made.Bits now peer (line_bits bits.now.count bits.now.bytes) ∷ []) }
 {
     let (stamp, station, chunk) = match bits_of(terminal, now, peer, bits) {
         Ok(call) => call,
@@ -121,9 +121,9 @@ pub extern "C" fn linediff_fault(
     ensures status { result ≡ status_number (peer_status terminal.old now peer) }
     ensures refused { result ≢ 0 → (terminal.new ≡ terminal.old) × (told.new ≡ told.old) }
     ensures tells { (f : Fields) (me : ℕ) (log : List Call) → result ≡ 0 → Stands terminal.old f me log
-        → TellsChanges told.new (changes_by f me log (faults now peer)) }
+        → TellsChanges told.new (changes_by f me log (made.Fault now peer)) }
     ensures stands { (f : Fields) (me : ℕ) (log : List Call) → result ≡ 0 → Stands terminal.old f me log
-        → Stands terminal.new f me (log ++ faults now peer ∷ []) }
+        → Stands terminal.new f me (log ++ made.Fault now peer ∷ []) }
 {
     let (stamp, station) = match peer_of(terminal, now, peer) {
         Ok(call) => call,

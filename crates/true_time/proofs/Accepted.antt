@@ -13,14 +13,15 @@ use Rattle.relay_message.specs.Messages.{added}
 use Rattle.relay_core.specs.Accepted.{Accepted, Completed, accepted_among, accepted_of, completed_by, is_addressed, next_number}
 use Rattle.relay_core.specs.Decided.{accepted_by}
 use Rattle.relay_core.specs.Line.{Messages}
-use Rattle.relay_core.specs.Log.{Call, now}
+use Rattle.relay_core.specs.Log.{now}
+use Rattle.relay_core.specs.declared.call.Call.{Call}
 use Rattle.relay_core.specs.declared.receipt.Receipt.{Receipt}
 use Rattle.relay_core.proofs.Accepting.{next_number-push}
 use Rattle.relay_core.proofs.Calls.{Completed-push, added-is}
 use Rattle.sample_store.proofs.Alongs.{along-both, along-push}
 use Rattle.sample_store.specs.Along.{along}
 use Rattle.line_world.specs.Crossings.{accepted_with}
-use Rattle.line_world.specs.StationLog.{StationLog, calls_by, stamp_at}
+use Rattle.relay_core.specs.StationLog.{StationLog, calls_by, stamp_at}
 use Rattle.true_time.specs.Places.{WasAccepted, added_with}
 use Rattle.true_time.proofs.Alongs.{grown}
 use Rattle.true_time.proofs.Elements.{in-turn, none-in}

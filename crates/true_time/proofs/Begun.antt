@@ -11,12 +11,13 @@ use Rattle.sample_store.specs.declared.ring.Numbered.{Numbered}
 use Rattle.relay_core.specs.Accepted.{Accepted, last_of}
 use Rattle.relay_core.specs.Decided.{Newest}
 use Rattle.relay_core.specs.Line.{is_locked_from}
-use Rattle.relay_core.specs.Log.{Call, now}
-use Rattle.relay_core.specs.Log.Call.{faults, hears, samples, sends}
+use Rattle.relay_core.specs.Log.{now}
+use Rattle.relay_core.specs.declared.call.Call.{Call}
+use Rattle.relay_core.specs.declared.call.Call.TheVariants as made
 use Rattle.relay_core.specs.Sent.{Begun, Slots, begins, begun_in, can_begin, echo_of, message_of, ready, slot_by}
 use Rattle.relay_core.proofs.Calls.{Slots-push, added-is, added-none}
 use Rattle.line_world.specs.Crossings.{begun_with}
-use Rattle.line_world.specs.StationLog.{StationLog}
+use Rattle.relay_core.specs.StationLog.{StationLog}
 use Rattle.true_time.proofs.Alongs.{IsGrowing, along-grows, filter_map-grows, then-grows}
 use Rattle.true_time.proofs.Elements.{none-in, one-in}
 use Rattle.true_time.proofs.Places.{Handed, IsHanded, handed}
@@ -29,7 +30,7 @@ Begun-grows f me peer = then-grows begun_in (Slots f me peer) (filter_map-grows 
 pub record IsBegun (f : Fields) (me peer : ℕ) (log : List Call) (call : Call) (m : Contents) : Type 0 where
   pub at : ℕ
   pub sample : Numbered
-  pub slot : call ≡ sends at
+  pub slot : call ≡ made.Slot at
   pub newest : Newest f me log ≡ Some sample
   pub is : m ≡ message_of me peer (now (log ++ call ∷ [])) (echo_of (last_of (Accepted f me peer log))) sample
 
@@ -54,17 +55,17 @@ pub begun-is : (f : Fields) (me peer : ℕ) (log : List Call) (call : Call) (m :
 begun-is f me peer log call m has = go call (subst (λ ms. Contains ms m) (begun-added f me peer log call) has)
   where
     of-slot : (at : ℕ) (newest : Option Numbered) → Newest f me log ≡ newest
-        → option_map (message_of me peer (now (log ++ sends at ∷ [])) (echo_of (last_of (Accepted f me peer log)))) newest ≡ Some m → IsBegun f me peer log (sends at) m
+        → option_map (message_of me peer (now (log ++ made.Slot at ∷ [])) (echo_of (last_of (Accepted f me peer log)))) newest ≡ Some m → IsBegun f me peer log (made.Slot at) m
     of-slot at None newest ready = absurd (cc)
     of-slot at (Some sample) newest ready = record { at = at; sample = sample; slot = refl; newest = newest; is = (let same = ready in cc) }
 
     go : (call : Call) → Contains (begun_in (slot_by f me peer log (Slots f me peer log) call)) m → IsBegun f me peer log call m
-    go (samples at values) has = absurd (none-in m has)
-    go (hears at from bits) has = absurd (none-in m has)
-    go (faults at from) has = absurd (none-in m has)
-    go (sends at) has =
-        let loaded = loaded-in (begins f.channels (Slots f me peer log) (ready f me peer log (now (log ++ sends at ∷ [])))) (not (is_locked_from f peer log)) m has in
-        let is_ready = begins-is f.channels (Slots f me peer log) (ready f me peer log (now (log ++ sends at ∷ []))) m loaded in
+    go (made.Sample at values) has = absurd (none-in m has)
+    go (made.Bits at from bits) has = absurd (none-in m has)
+    go (made.Fault at from) has = absurd (none-in m has)
+    go (made.Slot at) has =
+        let loaded = loaded-in (begins f.channels (Slots f me peer log) (ready f me peer log (now (log ++ made.Slot at ∷ [])))) (not (is_locked_from f peer log)) m has in
+        let is_ready = begins-is f.channels (Slots f me peer log) (ready f me peer log (now (log ++ made.Slot at ∷ []))) m loaded in
         of-slot at (Newest f me log) refl is_ready
 
 -- and with an entry of a journal

@@ -18,8 +18,9 @@ use Rattle.sample_store.specs.declared.ring.Numbered.{Numbered}
 use Rattle.sample_store.proofs.Alongs.{along-push}
 use Rattle.relay_core.specs.Accepted.{InForceWith}
 use Rattle.relay_core.specs.Decided.{JudgedSets, Offers, accepted_by, offered_by, values_of}
-use Rattle.relay_core.specs.Log.{Call, now}
-use Rattle.relay_core.specs.Log.Call.{faults, hears, samples, sends}
+use Rattle.relay_core.specs.Log.{now}
+use Rattle.relay_core.specs.declared.call.Call.{Call}
+use Rattle.relay_core.specs.declared.call.Call.TheVariants as made
 use Rattle.relay_core.specs.declared.receipt.Receipt.{Receipt}
 use Rattle.waveform_reader.specs.Sound.{IsStation}
 use Rattle.line_world.specs.Journals.{ArePair}
@@ -43,7 +44,7 @@ offer-of adds f me log call x has =
 record IsOwnOffer (log : List Call) (call : Call) (offer : Offer) : Type 0 where
   at : ℕ
   values : Phases
-  call_is : call ≡ samples at values
+  call_is : call ≡ made.Sample at values
   is : offer ≡ Own (now (log ++ call ∷ [])) values
 
 -- and the values of a message that is accepted with a call, by the exchange in force then
@@ -57,13 +58,13 @@ record IsPeersOffer (f : Fields) (me : ℕ) (log : List Call) (call : Call) (off
 
 offered : (f : Fields) (me : ℕ) (log : List Call) (call : Call) (offer : Offer) → Contains (offered_by f me log call) offer
     → IsOwnOffer log call offer ⊎ IsPeersOffer f me log call offer
-offered f me log (samples at values) offer has =
-    inl (record { at = at; values = values; call_is = refl; is = sym (one-in (Own (now (log ++ samples at values ∷ [])) values) offer has) })
-offered f me log (sends at) offer has = absurd (none-in offer has)
-offered f me log (faults at peer) offer has = absurd (none-in offer has)
-offered f me log (hears at peer bits) offer has =
-    let chosen = InForceWith f me peer (log ++ hears at peer bits ∷ []) in
-    let (receipt, accepted, brings) = in-flat_map (λ r. map (values_of peer r) (option_to_list chosen)) (accepted_by f me peer log (hears at peer bits)) offer has in
+offered f me log (made.Sample at values) offer has =
+    inl (record { at = at; values = values; call_is = refl; is = sym (one-in (Own (now (log ++ made.Sample at values ∷ [])) values) offer has) })
+offered f me log (made.Slot at) offer has = absurd (none-in offer has)
+offered f me log (made.Fault at peer) offer has = absurd (none-in offer has)
+offered f me log (made.Bits at peer bits) offer has =
+    let chosen = InForceWith f me peer (log ++ made.Bits at peer bits ∷ []) in
+    let (receipt, accepted, brings) = in-flat_map (λ r. map (values_of peer r) (option_to_list chosen)) (accepted_by f me peer log (made.Bits at peer bits)) offer has in
     let (exchange, in_force, is) = in-mapped (values_of peer receipt) (option_to_list chosen) offer brings in
     inr (record { peer = peer; receipt = receipt; exchange = exchange; accepted = accepted; in_force = option-in chosen exchange in_force; is = sym is })
 
@@ -78,7 +79,7 @@ offer-time f me log call offer (inr value) =
 -- an own sample that is taken with a call, at its number's multiple of the spacing or a tick later
 pub record IsTakenWith (f : Fields) (log : List Call) (call : Call) (sample : Numbered) : Type 0 where
   pub at : ℕ
-  pub call_is : call ≡ samples at sample.values
+  pub call_is : call ≡ made.Sample at sample.values
   pub since : sample.number * f.spacing ≤ now (log ++ call ∷ [])
   pub until : now (log ++ call ∷ []) ≤ sample.number * f.spacing + 1
 
@@ -90,7 +91,7 @@ own-taken f log call offer sample taken own =
     let values : own.values ≡ sample.values = cc in
     record {
       at = own.at;
-      call_is = own.call_is ∙ ap (samples own.at) values;
+      call_is = own.call_is ∙ ap (made.Sample own.at) values;
       since = subst (λ t. sample.number * f.spacing ≤ t) time taken.since;
       until = subst (λ t. t ≤ sample.number * f.spacing + 1) time taken.until;
     }

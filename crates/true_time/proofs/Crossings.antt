@@ -15,7 +15,7 @@ use Rattle.relay_core.proofs.Calls.{added-is}
 use Rattle.sample_store.specs.Along.{along_from}
 use Rattle.line_world.specs.Crossings.{Arrivals, Beginnings, Crossings, accepted_with, crossing_by, is_same, legs_from, legs_of, slot_time}
 use Rattle.line_world.specs.Report.{crossing_in_force}
-use Rattle.line_world.specs.StationLog.{StationLog}
+use Rattle.relay_core.specs.StationLog.{StationLog}
 use Rattle.line_world.specs.declared.crossing.Arrival.{Arrival}
 use Rattle.line_world.specs.declared.crossing.Beginning.{Beginning}
 use Rattle.line_world.specs.declared.crossing.Crossing.{Crossing}

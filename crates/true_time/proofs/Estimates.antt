@@ -14,13 +14,14 @@ use Rattle.pingpong.specs.declared.journal.What.{What}
 use Rattle.pingpong.specs.declared.journal.What.TheVariants.{Came, SendFailed, Slot, TakeFailed, Took}
 use Rattle.pingpong.proofs.Bounds.{Bounded-passage}
 use Rattle.pingpong.proofs.Journals.{Follows-in, IsPassage-in}
-use Rattle.relay_core.specs.Log.{Call, now}
-use Rattle.relay_core.specs.Log.Call.{faults, hears, samples, sends}
+use Rattle.relay_core.specs.Log.{now}
+use Rattle.relay_core.specs.declared.call.Call.{Call}
+use Rattle.relay_core.specs.declared.call.Call.TheVariants as made
 use Rattle.relay_core.specs.Sent.{echo_of}
 use Rattle.relay_core.specs.declared.receipt.Receipt.{Receipt}
 use Rattle.line_world.specs.Crossings.{Crossings}
 use Rattle.line_world.specs.Report.{bound_of, error_of, station_of}
-use Rattle.line_world.specs.StationLog.{StationLog, calls_of, stamp_at}
+use Rattle.relay_core.specs.StationLog.{StationLog, calls_of, stamp_at}
 use Rattle.line_world.specs.declared.crossing.Legs.{Legs}
 use Rattle.line_world.proofs.Entries.{StationLog-push}
 use Rattle.true_time.specs.Estimates.{AreHonest, EstimatesAreBounded, ExchangesAreYoung}
@@ -58,15 +59,15 @@ own-call me entry own = go entry.what refl
 
     go : (what : What) → entry.what ≡ what → (call : Call) × IsHanded me entry call
     go (Took station values) is =
-        (samples (stamp_at me entry) values, record { calls = ap (calls_of me (stamp_at me entry)) is ∙ here station _ (ap station_of (sym is) ∙ own); stamp = refl })
+        (made.Sample (stamp_at me entry) values, record { calls = ap (calls_of me (stamp_at me entry)) is ∙ here station _ (ap station_of (sym is) ∙ own); stamp = refl })
     go (Slot station first second) is =
-        (sends (stamp_at me entry), record { calls = ap (calls_of me (stamp_at me entry)) is ∙ here station _ (ap station_of (sym is) ∙ own); stamp = refl })
+        (made.Slot (stamp_at me entry), record { calls = ap (calls_of me (stamp_at me entry)) is ∙ here station _ (ap station_of (sym is) ∙ own); stamp = refl })
     go (Came station peer bits) is =
-        (hears (stamp_at me entry) peer bits, record { calls = ap (calls_of me (stamp_at me entry)) is ∙ here station _ (ap station_of (sym is) ∙ own); stamp = refl })
+        (made.Bits (stamp_at me entry) peer bits, record { calls = ap (calls_of me (stamp_at me entry)) is ∙ here station _ (ap station_of (sym is) ∙ own); stamp = refl })
     go (SendFailed station peer) is =
-        (faults (stamp_at me entry) peer, record { calls = ap (calls_of me (stamp_at me entry)) is ∙ here station _ (ap station_of (sym is) ∙ own); stamp = refl })
+        (made.Fault (stamp_at me entry) peer, record { calls = ap (calls_of me (stamp_at me entry)) is ∙ here station _ (ap station_of (sym is) ∙ own); stamp = refl })
     go (TakeFailed station peer) is =
-        (faults (stamp_at me entry) peer, record { calls = ap (calls_of me (stamp_at me entry)) is ∙ here station _ (ap station_of (sym is) ∙ own); stamp = refl })
+        (made.Fault (stamp_at me entry) peer, record { calls = ap (calls_of me (stamp_at me entry)) is ∙ here station _ (ap station_of (sym is) ∙ own); stamp = refl })
 
 module _ (f : Fields) (journal : List Entry) (stands : Stands f journal) where
   small : f.drift ≤ 1000000

@@ -13,15 +13,15 @@ use Rattle.pingpong.specs.declared.journal.What.TheVariants.{Came, SendFailed, S
 use Rattle.relay_core.specs.Accepted.{Accepted}
 use Rattle.relay_core.specs.Decided.{accepted_by}
 use Rattle.relay_core.specs.Line.{bits_from}
-use Rattle.relay_core.specs.Log.{Call}
-use Rattle.relay_core.specs.Log.Call.{faults, hears, samples, sends}
+use Rattle.relay_core.specs.declared.call.Call.{Call}
+use Rattle.relay_core.specs.declared.call.Call.TheVariants as made
 use Rattle.relay_core.specs.Sent.{echo_of}
 use Rattle.relay_core.specs.declared.receipt.Receipt.{Receipt}
 use Rattle.relay_core.proofs.Calls.{added-is}
 use Rattle.sample_store.specs.Along.{along}
 use Rattle.sample_store.proofs.Alongs.{along-push}
 use Rattle.line_world.specs.Crossings.{Arrivals, Forged, accepted_with, arrivals_of, legs_from, slot_time}
-use Rattle.line_world.specs.StationLog.{StationLog, calls_of, stamp_at}
+use Rattle.relay_core.specs.StationLog.{StationLog, calls_of, stamp_at}
 use Rattle.line_world.specs.declared.crossing.Arrival.{Arrival}
 use Rattle.line_world.specs.declared.crossing.Legs.{Legs}
 use Rattle.line_world.proofs.LineLists.{accepted-silent}
@@ -76,21 +76,21 @@ accepted-came-with f me peer before entry r has =
     go : (what : What) → entry.what ≡ what → (call : Call) → IsHanded me entry call → Contains (accepted_by f me peer (StationLog me before) call) r
         → (bits : List ℕ) × (entry.what ≡ Came me peer bits)
     go (Took station values) is call handed by =
-        let one = one-of (station == me) call (samples (stamp_at me entry) values) (sym (ap (calls_of me (stamp_at me entry)) is) ∙ handed.calls) in
+        let one = one-of (station == me) call (made.Sample (stamp_at me entry) values) (sym (ap (calls_of me (stamp_at me entry)) is) ∙ handed.calls) in
         absurd (silent call (ap (bits_from peer) (sym one)) by)
     go (Slot station one other) is call handed by =
-        let same = one-of (station == me) call (sends (stamp_at me entry)) (sym (ap (calls_of me (stamp_at me entry)) is) ∙ handed.calls) in
+        let same = one-of (station == me) call (made.Slot (stamp_at me entry)) (sym (ap (calls_of me (stamp_at me entry)) is) ∙ handed.calls) in
         absurd (silent call (ap (bits_from peer) (sym same)) by)
     go (SendFailed station to) is call handed by =
-        let one = one-of (station == me) call (faults (stamp_at me entry) to) (sym (ap (calls_of me (stamp_at me entry)) is) ∙ handed.calls) in
+        let one = one-of (station == me) call (made.Fault (stamp_at me entry) to) (sym (ap (calls_of me (stamp_at me entry)) is) ∙ handed.calls) in
         absurd (silent call (ap (bits_from peer) (sym one)) by)
     go (TakeFailed station from) is call handed by =
-        let one = one-of (station == me) call (faults (stamp_at me entry) from) (sym (ap (calls_of me (stamp_at me entry)) is) ∙ handed.calls) in
+        let one = one-of (station == me) call (made.Fault (stamp_at me entry) from) (sym (ap (calls_of me (stamp_at me entry)) is) ∙ handed.calls) in
         absurd (silent call (ap (bits_from peer) (sym one)) by)
     go (Came station from bits) is call handed by =
         let calls = sym (ap (calls_of me (stamp_at me entry)) is) ∙ handed.calls in
-        let one = one-of (station == me) call (hears (stamp_at me entry) from bits) calls in
-        let here = eqb-true station me (test-of (station == me) call (hears (stamp_at me entry) from bits) calls) in
+        let one = one-of (station == me) call (made.Bits (stamp_at me entry) from bits) calls in
+        let here = eqb-true station me (test-of (station == me) call (made.Bits (stamp_at me entry) from bits) calls) in
         let there = eqb-true from peer (came-from (from == peer) bits (λ none. silent call (ap (bits_from peer) (sym one) ∙ none) by)) in
         (bits, is ∙ ap (λ s. Came s from bits) here ∙ ap (λ s. Came me s bits) there)
 

@@ -9,7 +9,7 @@ use Rattle.relay_core.specs.Accepted.{Accepted, last_of}
 use Rattle.relay_core.specs.declared.receipt.Receipt.{Receipt}
 use Rattle.sample_store.specs.Along.{along_from}
 use Rattle.line_world.specs.Crossings.{Arrivals, accepted_with, slot_time}
-use Rattle.line_world.specs.StationLog.{StationLog, calls_by}
+use Rattle.relay_core.specs.StationLog.{StationLog, calls_by}
 use Rattle.line_world.specs.declared.crossing.Arrival.{Arrival}
 use Rattle.line_world.proofs.Entries.{StationLog-push}
 use Rattle.line_world.proofs.LineLists.{Arrivals-push}

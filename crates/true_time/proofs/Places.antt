@@ -14,13 +14,14 @@ use Rattle.pingpong.proofs.Journals.{Follows-in}
 use Rattle.relay_message.specs.Messages.{added}
 use Rattle.relay_core.specs.Accepted.{Accepted, Completed, accepted_among, accepted_of, completed_by}
 use Rattle.relay_core.specs.Decided.{accepted_by}
-use Rattle.relay_core.specs.Log.{Call, now, stamp_of}
-use Rattle.relay_core.specs.Log.Call.{faults, hears, samples, sends}
+use Rattle.relay_core.specs.Log.{now, stamp_of}
+use Rattle.relay_core.specs.declared.call.Call.{Call}
+use Rattle.relay_core.specs.declared.call.Call.TheVariants as made
 use Rattle.relay_core.specs.declared.receipt.Receipt.{Receipt}
 use Rattle.relay_core.proofs.Calls.{added-none, now-push}
 use Rattle.sample_store.specs.Along.{along_from}
 use Rattle.line_world.specs.Crossings.{accepted_with}
-use Rattle.line_world.specs.StationLog.{StationLog, calls_by, calls_of, stamp_at}
+use Rattle.relay_core.specs.StationLog.{StationLog, calls_by, calls_of, stamp_at}
 use Rattle.line_world.proofs.Entries.{StationLog-push}
 use Rattle.true_time.specs.Places.{IsAt, WasAccepted, added_with}
 use Rattle.true_time.proofs.Alongs.{IsGrowing, along-grows, comes-with, contains-later, flat_map-grows, take-one, take-past, then-grows}
@@ -39,11 +40,11 @@ handed-if me entry true call are at = handing call (record { calls = are; stamp 
 handed-if me entry false call are at = quiet are
 
 handed-of : (me : ℕ) (entry : Entry) (what : What) → entry.what ≡ what → Handed me entry
-handed-of me entry (Took station values) is = handed-if me entry (station == me) (samples (stamp_at me entry) values) (ap (calls_of me (stamp_at me entry)) is) refl
-handed-of me entry (Slot station first second) is = handed-if me entry (station == me) (sends (stamp_at me entry)) (ap (calls_of me (stamp_at me entry)) is) refl
-handed-of me entry (Came station peer bits) is = handed-if me entry (station == me) (hears (stamp_at me entry) peer bits) (ap (calls_of me (stamp_at me entry)) is) refl
-handed-of me entry (SendFailed station peer) is = handed-if me entry (station == me) (faults (stamp_at me entry) peer) (ap (calls_of me (stamp_at me entry)) is) refl
-handed-of me entry (TakeFailed station peer) is = handed-if me entry (station == me) (faults (stamp_at me entry) peer) (ap (calls_of me (stamp_at me entry)) is) refl
+handed-of me entry (Took station values) is = handed-if me entry (station == me) (made.Sample (stamp_at me entry) values) (ap (calls_of me (stamp_at me entry)) is) refl
+handed-of me entry (Slot station first second) is = handed-if me entry (station == me) (made.Slot (stamp_at me entry)) (ap (calls_of me (stamp_at me entry)) is) refl
+handed-of me entry (Came station peer bits) is = handed-if me entry (station == me) (made.Bits (stamp_at me entry) peer bits) (ap (calls_of me (stamp_at me entry)) is) refl
+handed-of me entry (SendFailed station peer) is = handed-if me entry (station == me) (made.Fault (stamp_at me entry) peer) (ap (calls_of me (stamp_at me entry)) is) refl
+handed-of me entry (TakeFailed station peer) is = handed-if me entry (station == me) (made.Fault (stamp_at me entry) peer) (ap (calls_of me (stamp_at me entry)) is) refl
 
 pub handed : (me : ℕ) (entry : Entry) → Handed me entry
 handed me entry = handed-of me entry entry.what refl

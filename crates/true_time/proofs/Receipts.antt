@@ -7,7 +7,7 @@ use Rattle.pingpong.specs.declared.journal.Entry.{Entry}
 use Rattle.relay_core.specs.Accepted.{Accepted, last_of}
 use Rattle.relay_core.specs.Sent.{echo_of}
 use Rattle.relay_core.specs.declared.receipt.Receipt.{Receipt}
-use Rattle.line_world.specs.StationLog.{StationLog}
+use Rattle.relay_core.specs.StationLog.{StationLog}
 use Rattle.true_time.specs.Places.{Began}
 use Rattle.true_time.specs.Receipts.{EchoesAreReal, IsRealEcho}
 use Rattle.true_time.proofs.Accepted.{accepted-at}

@@ -15,11 +15,12 @@ use Rattle.sample_store.specs.Along.{along_from}
 use Rattle.sample_store.specs.Offers.{Placed, Taken, placed_by, taken_by}
 use Rattle.sample_store.specs.declared.ring.Numbered.{Numbered}
 use Rattle.relay_core.specs.Decided.{Offers, offered_by}
-use Rattle.relay_core.specs.Log.{Call, now}
-use Rattle.relay_core.specs.Log.Call.{faults, hears, samples, sends}
+use Rattle.relay_core.specs.Log.{now}
+use Rattle.relay_core.specs.declared.call.Call.{Call}
+use Rattle.relay_core.specs.declared.call.Call.TheVariants as made
 use Rattle.relay_core.proofs.Calls.{added-none}
 use Rattle.waveform_reader.specs.Sound.{IsStation}
-use Rattle.line_world.specs.StationLog.{StationLog, calls_of, stamp_at}
+use Rattle.relay_core.specs.StationLog.{StationLog, calls_of, stamp_at}
 use Rattle.line_world.proofs.Entries.{StationLog-push}
 use Rattle.true_time.specs.Places.{Began, IsAt, PlacedIn, TakenIn, WasPlaced, WasTaken, added_with}
 use Rattle.true_time.proofs.Alongs.{IsGrowing, along-grows, take-one, then-grows}
@@ -70,23 +71,23 @@ log-at me journal place entry call is_at is =
     ap (StationLog me) (take-one journal place entry is_at) ∙ StationLog-push me (take place journal) entry ∙ ap (λ calls. StationLog me (take place journal) ++ calls) is.calls
 
 -- an entry that hands on a sample is that of a sample
-took-if : (b : Bool) (me station at time : ℕ) (values sample : Phases) → (station == me) ≡ b → cond b (samples time values ∷ []) [] ≡ samples at sample ∷ []
+took-if : (b : Bool) (me station at time : ℕ) (values sample : Phases) → (station == me) ≡ b → cond b (made.Sample time values ∷ []) [] ≡ made.Sample at sample ∷ []
     → Took station values ≡ Took me sample
 took-if true me station at time values sample same is =
     let sampled : values ≡ sample = cc in
     ap (λ s. Took s values) (eqb-true station me same) ∙ ap (Took me) sampled
 took-if false me station at time values sample same is = absurd (cc)
 
-other-if : (b : Bool) (call : Call) (at : ℕ) (sample : Phases) → (call ≡ samples at sample → ⊥) → cond b (call ∷ []) [] ≡ samples at sample ∷ [] → ⊥
+other-if : (b : Bool) (call : Call) (at : ℕ) (sample : Phases) → (call ≡ made.Sample at sample → ⊥) → cond b (call ∷ []) [] ≡ made.Sample at sample ∷ [] → ⊥
 other-if true call at sample other is = other (cc)
 other-if false call at sample other is = cc
 
-took-of : (me at time : ℕ) (what : What) (sample : Phases) → calls_of me time what ≡ samples at sample ∷ [] → what ≡ Took me sample
+took-of : (me at time : ℕ) (what : What) (sample : Phases) → calls_of me time what ≡ made.Sample at sample ∷ [] → what ≡ Took me sample
 took-of me at time (Took station values) sample is = took-if (station == me) me station at time values sample refl is
-took-of me at time (Slot station first second) sample is = absurd (other-if (station == me) (sends time) at sample (λ same. cc) is)
-took-of me at time (Came station peer bits) sample is = absurd (other-if (station == me) (hears time peer bits) at sample (λ same. cc) is)
-took-of me at time (SendFailed station peer) sample is = absurd (other-if (station == me) (faults time peer) at sample (λ same. cc) is)
-took-of me at time (TakeFailed station peer) sample is = absurd (other-if (station == me) (faults time peer) at sample (λ same. cc) is)
+took-of me at time (Slot station first second) sample is = absurd (other-if (station == me) (made.Slot time) at sample (λ same. cc) is)
+took-of me at time (Came station peer bits) sample is = absurd (other-if (station == me) (made.Bits time peer bits) at sample (λ same. cc) is)
+took-of me at time (SendFailed station peer) sample is = absurd (other-if (station == me) (made.Fault time peer) at sample (λ same. cc) is)
+took-of me at time (TakeFailed station peer) sample is = absurd (other-if (station == me) (made.Fault time peer) at sample (λ same. cc) is)
 
 -- a sample that was taken by then came with an entry that took it
 pub came-taken : (f : Fields) (station : ℕ) (journal : List Entry) (n : ℕ) (sample : Numbered) → Contains (TakenIn f station (StationLog station (take n journal))) sample

@@ -12,13 +12,14 @@ use Rattle.pingpong.proofs.Journals.{Follows-in}
 use Rattle.sample_store.specs.Aligned.{Aligned}
 use Rattle.relay_core.specs.Accepted.{InForceWith}
 use Rattle.relay_core.specs.Decided.{JudgedSets, accepted_by}
-use Rattle.relay_core.specs.Log.{Call, now}
+use Rattle.relay_core.specs.Log.{now}
+use Rattle.relay_core.specs.declared.call.Call.{Call}
 use Rattle.relay_core.specs.declared.receipt.Receipt.{Receipt}
 use Rattle.waveform_reader.specs.Sound.{IsStation}
 use Rattle.line_world.specs.Crossings.{Crossings}
 use Rattle.line_world.specs.Journals.{ArePair}
 use Rattle.line_world.specs.Report.{crossing_in_force}
-use Rattle.line_world.specs.StationLog.{StationLog, stamp_at}
+use Rattle.relay_core.specs.StationLog.{StationLog, stamp_at}
 use Rattle.line_world.specs.declared.crossing.Crossing.{Crossing}
 use Rattle.line_world.proofs.InForces.{crossing-found}
 use Rattle.true_time.specs.Places.{IsAt, PlacedIn, TakenIn, WasAccepted, WasJudged, part_of}

@@ -9,7 +9,7 @@ use Rattle.relay_core.specs.Accepted.{Accepted, last_of}
 use Rattle.relay_core.specs.declared.receipt.Receipt.{Receipt}
 use Rattle.line_world.specs.Journals.{ArePair}
 use Rattle.line_world.specs.Report.{bound_of, crossing_in_force, error_of, station_of}
-use Rattle.line_world.specs.StationLog.{StationLog}
+use Rattle.relay_core.specs.StationLog.{StationLog}
 use Rattle.line_world.specs.declared.crossing.Crossing.{Crossing}
 use Rattle.line_world.specs.declared.crossing.Legs.{Legs}
 use Rattle.true_time.specs.Places.{Began, IsAt, WasAccepted}

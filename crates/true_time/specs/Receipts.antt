@@ -7,7 +7,7 @@ use Rattle.pingpong.specs.declared.journal.Entry.{Entry}
 use Rattle.relay_core.specs.Accepted.{Accepted, last_of}
 use Rattle.relay_core.specs.declared.receipt.Receipt.{Receipt}
 use Rattle.line_world.specs.Journals.{ArePair}
-use Rattle.line_world.specs.StationLog.{StationLog, stamp_at}
+use Rattle.relay_core.specs.StationLog.{StationLog, stamp_at}
 use Rattle.true_time.specs.Places.{Began, WasAccepted}
 
 -- an echo in a message that began at a place names a real receipt: at an earlier entry the sender had accepted, from the receiver, a

@@ -166,6 +166,8 @@ fn two_terminals_align_and_trip_where_the_rules_say_so(rt: HostRuntime) -> Resul
         set(112_075, 108, Verdict::Trip),
     ];
     assert!(rt; has_all(&two.post.lines, &other_end));
+    let last = one.post.terminal.last_set().ok_or("no set")?;
+    assert_eq!(rt; last.number, 196);
     assert_eq!(rt; totals(&one.post.lines), [196, 192, 93]);
     assert_eq!(rt; totals(&two.post.lines), [196, 192, 93]);
     Ok(())

@@ -1,8 +1,8 @@
 use Rattle.std.proofs.Common.{None, arith, refl, sym, ◌∙◌}
 use Rattle.pingpong.specs.declared.journal.What.TheVariants as what
-use Rattle.relay_core.specs.Log.Call.{faults}
+use Rattle.relay_core.specs.declared.call.Call.TheVariants as made
 use Rattle.line_world.specs.Book.{entry_at}
-use Rattle.line_world.specs.StationLog.{StationLog, stamp_at}
+use Rattle.relay_core.specs.StationLog.{StationLog, stamp_at}
 use Rattle.line_world.proofs.Accounts.{Forged-same, accepted-none, begun-none, judged-faults, ledgers-quiet, lines-decided}
 use Rattle.line_world.proofs.Entries.{Hands-send_failed, Hands-take_failed}
 use Rattle.line_world.proofs.Rooms.{room-after, room-lines, room-same}
@@ -27,7 +27,7 @@ returns-clause-took c =
     let f = c.self.inside.settings in
     let me = c.args.me in
     let entry = entry_at c.args.now.now (what.TakeFailed me peer) in
-    let call = faults (stamp_at me entry) peer in
+    let call = made.Fault (stamp_at me entry) peer in
     let log = StationLog me journal in
     let hands = Hands-take_failed c.args.now.now me peer in
     let none = judged-faults f me log (stamp_at me entry) peer in
@@ -46,7 +46,7 @@ returns-clause-sent c =
     let f = c.self.inside.settings in
     let me = c.args.me in
     let entry = entry_at c.args.now.now (what.SendFailed me peer) in
-    let call = faults (stamp_at me entry) peer in
+    let call = made.Fault (stamp_at me entry) peer in
     let log = StationLog me journal in
     let hands = Hands-send_failed c.args.now.now me peer in
     let none = judged-faults f me log (stamp_at me entry) peer in

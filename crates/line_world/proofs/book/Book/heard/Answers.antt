@@ -4,7 +4,7 @@ use Rattle.std.proofs.lemmas.List.{length-set}
 use Rattle.std.proofs.lemmas.List.Elements.{All-set}
 use Rattle.pingpong.specs.declared.journal.What.TheVariants as what
 use Rattle.relay_core.specs.Log as log
-use Rattle.relay_core.specs.Log.Call.{hears}
+use Rattle.relay_core.specs.declared.call.Call.TheVariants as made
 use Rattle.relay_core.proofs.Lists as lists
 use Rattle.line_world.specs.Book.{IsLedger, entry_at}
 use Rattle.line_world.specs.Books.{way_of}
@@ -12,7 +12,7 @@ use Rattle.line_world.specs.Crossings.{Forged}
 use Rattle.line_world.specs.Ledger.{AreRising}
 use Rattle.line_world.specs.Occasions.{Way}
 use Rattle.line_world.specs.Report.{alarm_line, est_line, set_line}
-use Rattle.line_world.specs.StationLog.{StationLog, stamp_at}
+use Rattle.relay_core.specs.StationLog.{StationLog, stamp_at}
 use Rattle.line_world.specs.Told.{accepted_in, crossing_told, with_accepted, with_arrival, with_heard, with_judged}
 use Rattle.line_world.proofs.Accounts.{Forged-push, lines-told}
 use Rattle.line_world.proofs.Entries.{Hands-came, StationLog-here}
@@ -79,7 +79,7 @@ returns-clause-book c =
     let heard = c.args.heard.now in
     let entry = entry_at c.args.now.now (what.Came me peer bits) in
     let stamp = stamp_at me entry in
-    let call = hears stamp peer bits in
+    let call = made.Bits stamp peer bits in
     let hands = Hands-came c.args.now.now me peer bits in
     let place = c.place_of-place.result in
     let items = c.self.inside.ledgers.items in

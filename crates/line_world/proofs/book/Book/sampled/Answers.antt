@@ -1,8 +1,8 @@
 use Rattle.std.proofs.Common.{◌-◌, arith, refl, sym, ◌∙◌}
 use Rattle.pingpong.specs.declared.journal.What.TheVariants as what
-use Rattle.relay_core.specs.Log.Call.{samples}
+use Rattle.relay_core.specs.declared.call.Call.TheVariants as made
 use Rattle.line_world.specs.Book.{entry_at}
-use Rattle.line_world.specs.StationLog.{StationLog, stamp_at}
+use Rattle.relay_core.specs.StationLog.{StationLog, stamp_at}
 use Rattle.line_world.specs.Told.{with_judged}
 use Rattle.line_world.proofs.Accounts.{Forged-same, accepted-none, begun-none, ledgers-quiet, lines-decided}
 use Rattle.line_world.proofs.Entries.{Hands-took}
@@ -28,7 +28,7 @@ returns-clause-book c =
     let f = c.self.inside.settings in
     let me = c.args.me in
     let entry = entry_at c.args.now.now (what.Took me values) in
-    let call = samples (stamp_at me entry) values in
+    let call = made.Sample (stamp_at me entry) values in
     let log = StationLog me journal in
     let hands = Hands-took c.args.now.now me values in
     record {

@@ -1,11 +1,11 @@
 use Rattle.std.specs.Vec.{with_items}
 use Rattle.std.proofs.Common.{◌≡◌, ℕ, ◌≤◌, All, None, Option, ap, arith, map, refl, subst, sym, ◌∙◌}
 use Rattle.pingpong.specs.declared.journal.What.TheVariants as what
-use Rattle.relay_core.specs.Log.Call.{sends}
+use Rattle.relay_core.specs.declared.call.Call.TheVariants as made
 use Rattle.relay_core.proofs.Lists.{written-mapped}
 use Rattle.line_world.specs.Book.{IsLedger, entry_at}
 use Rattle.line_world.specs.Books.{way_of}
-use Rattle.line_world.specs.StationLog.{StationLog, stamp_at}
+use Rattle.relay_core.specs.StationLog.{StationLog, stamp_at}
 use Rattle.line_world.specs.Told.{last_on, with_slot}
 use Rattle.line_world.specs.declared.crossing.Arrival.{Arrival}
 use Rattle.line_world.proofs.Accounts.{Forged-same, accepted-none, judged-sends, lines-decided}
@@ -53,7 +53,7 @@ returns-clause-book c =
     let f = c.self.inside.settings in
     let me = c.args.me in
     let entry = entry_at c.args.now.now (what.Slot me first second) in
-    let call = sends (stamp_at me entry) in
+    let call = made.Slot (stamp_at me entry) in
     let log = StationLog me journal in
     let hands = Hands-slot c.args.now.now me first second in
     let none = judged-sends f me log (stamp_at me entry) in

@@ -1,7 +1,7 @@
 use Rattle.std.proofs.Common.{◌≡◌, refl, ◌∙◌}
 use Rattle.pingpong.specs.declared.journal.What.TheVariants.{SendFailed}
 use Rattle.relay_core.specs.Answers.{changes_by}
-use Rattle.relay_core.specs.Log.Call.{faults}
+use Rattle.relay_core.specs.declared.call.Call.TheVariants as made
 use Rattle.line_world.proofs.Slotting.{newest-fault}
 use Rattle.line_world.proofs.Stationing.{IsCallOf, names-station, peer-at, stationed, terminal-at, told-of}
 use Rattle.line_world.proofs.hall.Hall.send_failed.Goals as goal
@@ -12,11 +12,11 @@ fault-changes-requires c =
     c.index_mut-terminal.result.now c.self.invariant.terminals (rw (← c.self.view_is) at c.requires.two) c.place_of.ensures c.index_mut-terminal.ensures.value
 
 -- the entry is the failed call of the sender
-is_call : (c : goal.After-push_reserved) → IsCallOf c.args.sender (faults c.stamp-stamp.result c.args.receiver) c.entry.result
+is_call : (c : goal.After-push_reserved) → IsCallOf c.args.sender (made.Fault c.stamp-stamp.result c.args.receiver) c.entry.result
 is_call c =
     let now = c.args.now.now in
     names-station c.args.sender c.stamp-stamp.result now.tick now.phases (SendFailed c.args.sender c.args.receiver)
-    (λ at. faults at c.args.receiver) c.entry.result c.entry.ensures c.stamp-stamp.ensures (λ me at. refl)
+    (λ at. made.Fault at c.args.receiver) c.entry.result c.entry.ensures c.stamp-stamp.ensures (λ me at. refl)
 
 pub invariant_of-self : goal.invariant_of-self
 invariant_of-self c =
@@ -27,11 +27,11 @@ invariant_of-self c =
     let changes = c.fault-changes.result.items in
     let terminal = terminal-at h.scenario.settings h.journal.items h.terminals.items c.args.sender c.place_of.result old kept.terminals there c.place_of.ensures
     c.index_mut-terminal.ensures.value in
-    let told = told-of (λ f me log at. changes ≡ changes_by f me log (faults at c.args.receiver)) h.scenario.settings h.book.settings h.journal.items c.args.sender
+    let told = told-of (λ f me log at. changes ≡ changes_by f me log (made.Fault at c.args.receiver)) h.scenario.settings h.book.settings h.journal.items c.args.sender
     c.stamp-stamp.result _ old terminal kept.settings c.stamp-stamp.ensures c.fault-changes.ensures.changes in
     record {
       terminals = rw c.push_reserved.ensures.items
-          (stationed h.scenario.settings h.journal.items h.terminals.items c.args.sender c.place_of.result (faults c.stamp-stamp.result c.args.receiver) c.entry.result
+          (stationed h.scenario.settings h.journal.items h.terminals.items c.args.sender c.place_of.result (made.Fault c.stamp-stamp.result c.args.receiver) c.entry.result
           old c.fault-changes.new.self kept.terminals there c.place_of.ensures c.index_mut-terminal.ensures.value (is_call c)
           (record { settings = c.fault-changes.ensures.settings; stands = c.fault-changes.ensures.stands }));
       settings = c.faulted.ensures.settings ∙ kept.settings;

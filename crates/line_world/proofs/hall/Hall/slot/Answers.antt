@@ -5,11 +5,11 @@ use Rattle.pingpong.specs.declared.journal.Entry.{Entry}
 use Rattle.pingpong.specs.declared.journal.What.{What}
 use Rattle.relay_core.specs.Answers.{outgo_by, outgo_of}
 use Rattle.relay_core.specs.Log.{peers}
-use Rattle.relay_core.specs.Log.Call.{sends}
+use Rattle.relay_core.specs.declared.call.Call.TheVariants as made
 use Rattle.relay_core.specs.declared.answers.Outgoing.{Outgoing}
 use Rattle.waveform_reader.specs.Scenario.{phases_at}
-use Rattle.line_world.specs.Book.{IsSlotted}
-use Rattle.line_world.specs.StationLog.{StationLog}
+use Rattle.relay_core.specs.IsAnswer.{IsSlotted}
+use Rattle.relay_core.specs.StationLog.{StationLog}
 use Rattle.line_world.specs.World.{slot_with}
 use Rattle.line_world.proofs.Slotting.{frames-of, newest-added, peers-some, sent-by, sent-each, sent-to}
 use Rattle.line_world.proofs.Stationing.{IsCallOf, names-station, stationed, terminal-at, told-of}
@@ -19,15 +19,15 @@ use Rattle.line_world.proofs.hall.Hall.slot.Goals.{After-deref}
 -- the frames go to the station's peers by its log
 sent : (c : After-deref)
     → map outgo_of c.slot-slotted.result.frames.items
-    ≡ map (outgo_by c.self.inside.scenario.settings c.args.station (StationLog c.args.station c.self.inside.journal.items) (sends c.stamp-stamp.result))
+    ≡ map (outgo_by c.self.inside.scenario.settings c.args.station (StationLog c.args.station c.self.inside.journal.items) (made.Slot c.stamp-stamp.result))
     (peers c.self.inside.scenario.settings c.args.station)
 sent c =
     let h = c.self.inside in
     let terminal = c.index_mut-terminal.result.now in
-    sent-by h.scenario.settings h.journal.items c.args.station terminal (sends c.stamp-stamp.result) c.slot-slotted.result.frames.items
+    sent-by h.scenario.settings h.journal.items c.args.station terminal (made.Slot c.stamp-stamp.result) c.slot-slotted.result.frames.items
     (terminal-at h.scenario.settings h.journal.items h.terminals.items c.args.station c.place_of.result terminal c.self.invariant.terminals
     (rw (← c.self.view_is) at c.requires.there) c.place_of.ensures c.index_mut-terminal.ensures.value)
-    c.slot-slotted.ensures.frames
+    (λ calls stands. (c.slot-slotted.ensures.answer calls stands).frames)
 
 pub slot_of-requires : goal.slot_of-requires
 slot_of-requires c =
@@ -36,10 +36,10 @@ slot_of-requires c =
     omega (arith, ap length c.deref.ensures.0, length-map c.slot-slotted.result.frames.items (λ o. o.to), ap length to, peers-some f c.args.station c.settings.ensures.kept.settings)
 
 -- the entry is the slot of the station
-is_call : (c : goal.After-push_reserved) → IsCallOf c.args.station (sends c.stamp-stamp.result) c.entry.result
+is_call : (c : goal.After-push_reserved) → IsCallOf c.args.station (made.Slot c.stamp-stamp.result) c.entry.result
 is_call c =
     let now = c.args.now.now in
-    names-station c.args.station c.stamp-stamp.result now.tick now.phases _ sends c.entry.result
+    names-station c.args.station c.stamp-stamp.result now.tick now.phases _ made.Slot c.entry.result
     (c.entry.ensures ∙ ap (λ (what : What). record { time = now.tick; phases = now.phases; what = what }) c.slot_of.ensures) c.stamp-stamp.ensures (λ me at. refl)
 
 pub invariant_of-self : goal.invariant_of-self
@@ -51,12 +51,12 @@ invariant_of-self c =
     let answer = c.slot-slotted.result in
     let terminal = terminal-at h.scenario.settings h.journal.items h.terminals.items c.args.station c.place_of.result old kept.terminals there c.place_of.ensures
     c.index_mut-terminal.ensures.value in
-    let told = told-of (λ f me log at. IsSlotted f me log (sends at) answer) h.scenario.settings h.book.settings h.journal.items c.args.station
+    let told = told-of (λ f me log at. IsSlotted f me log (made.Slot at) answer) h.scenario.settings h.book.settings h.journal.items c.args.station
     c.stamp-stamp.result _ old terminal kept.settings c.stamp-stamp.ensures
-    (λ calls stands. record { frames = c.slot-slotted.ensures.frames calls stands; changes = c.slot-slotted.ensures.changes calls stands }) in
+    c.slot-slotted.ensures.answer in
     record {
       terminals = rw c.push_reserved.ensures.items
-          (stationed h.scenario.settings h.journal.items h.terminals.items c.args.station c.place_of.result (sends c.stamp-stamp.result) c.entry.result old
+          (stationed h.scenario.settings h.journal.items h.terminals.items c.args.station c.place_of.result (made.Slot c.stamp-stamp.result) c.entry.result old
           c.slot-slotted.new.self kept.terminals there c.place_of.ensures c.index_mut-terminal.ensures.value (is_call c)
           (record { settings = c.slot-slotted.ensures.settings; stands = c.slot-slotted.ensures.stands }));
       settings = c.slotted.ensures.settings ∙ kept.settings;
@@ -90,7 +90,7 @@ returns-clause-frames c = λ k o inside.
     let f = c.self.inside.scenario.settings in
     let outs = c.slot-slotted.result.frames.items in
     let log = StationLog c.args.station c.self.inside.journal.items in
-    let added = sent-each f c.args.station log (sends c.stamp-stamp.result) outs (peers f c.args.station) (sent d) k o inside in
+    let added = sent-each f c.args.station log (made.Slot c.stamp-stamp.result) outs (peers f c.args.station) (sent d) k o inside in
     rw (c.push_reserved.ensures.items, ← c.self.view_is)
-    (newest-added f c.args.station (get_or outs k o).to (sends c.stamp-stamp.result) c.entry.result c.self.inside.journal.items
+    (newest-added f c.args.station (get_or outs k o).to (made.Slot c.stamp-stamp.result) c.entry.result c.self.inside.journal.items
     (bits_of (get_or outs k o).bytes) (is_call c) added)

@@ -5,7 +5,9 @@ use Rattle.offset_track.specs.Track as track
 use Rattle.relay_core.specs.Accepted.{Exchanges}
 use Rattle.relay_core.specs.Answers.{news_of}
 use Rattle.relay_core.specs.Follows.{Follows}
-use Rattle.relay_core.specs.Log.{Call, hears, now}
+use Rattle.relay_core.specs.Log.{now}
+use Rattle.relay_core.specs.declared.call.Call.{Call}
+use Rattle.relay_core.specs.declared.call.Call.TheVariants as made
 use Rattle.relay_core.specs.declared.answers.News.TheVariants as news
 use Rattle.relay_core.proofs.Following.{AreHeard, Brings-hears, Follows-hears}
 use Rattle.relay_core.proofs.peer.Peer.hear.Goals as goal
@@ -16,7 +18,7 @@ none_of None e = refl
 none_of (Some x) e = absurd (cc)
 
 nothing : (c : goal.After-self-then-is_none-1) (f : Fields) (calls : List Call) (at : ℕ) → Follows f c.args.me calls c.args.self.now
-    → c.args.now ≡ now (calls ++ hears at c.args.self.now.station c.args.chunk.now ∷ [])
+    → c.args.now ≡ now (calls ++ made.Bits at c.args.self.now.station c.args.chunk.now ∷ [])
     → AreHeard f c.args.me at c.args.now calls c.args.self.now c.args.chunk.now c.hear-told.result news.Nothing
 nothing c f calls at follows time =
     let p = c.args.self.now in

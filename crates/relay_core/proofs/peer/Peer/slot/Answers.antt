@@ -2,8 +2,9 @@ use Rattle.std.proofs.Common.{◌≡◌, ◌∷◌, [], ◌++◌, ℕ, List, not
 use Rattle.ld_base.specs.declared.fields.Fields.{Fields}
 use Rattle.relay_core.specs.Decided.{Newest}
 use Rattle.relay_core.specs.Follows.{Follows, SendsSlot}
-use Rattle.relay_core.specs.Log.{Call, now}
-use Rattle.relay_core.specs.Log.Call.{sends}
+use Rattle.relay_core.specs.Log.{now}
+use Rattle.relay_core.specs.declared.call.Call.{Call}
+use Rattle.relay_core.specs.declared.call.Call.TheVariants as made
 use Rattle.relay_core.specs.Sent.{Slots, echo_of, message_of}
 use Rattle.relay_core.specs.Talks.{Begins, Speaks, Spoken, Talks}
 use Rattle.relay_core.specs.declared.peer.Peer.{Peer}
@@ -37,7 +38,7 @@ abbrev spoken : goal.After-slot → Spoken
 spoken c = record { bytes = c.slot.new.frame; begun = c.if-not-in_flight.out.begun }
 
 is_spoken : (c : goal.After-slot) (f : Fields) (calls : List Call) (at : ℕ) → Follows f c.args.me calls c.args.self.now → c.args.newest.now ≡ Newest f c.args.me calls
-    → c.args.now ≡ now (calls ++ sends at ∷ []) → IsSpoken f c.args.me at c.args.now calls c.args.self.now c.args.newest.now c.slot.new.self (spoken c)
+    → c.args.now ≡ now (calls ++ made.Slot at ∷ []) → IsSpoken f c.args.me at c.args.now calls c.args.self.now c.args.newest.now c.slot.new.self (spoken c)
 is_spoken c f calls at follows newest time =
     let p = c.args.self.now in
     let slots = Slots f c.args.me p.station calls in

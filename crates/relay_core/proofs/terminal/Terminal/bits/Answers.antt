@@ -7,7 +7,8 @@ use Rattle.relay_core.specs.Answers.{news_in, placed_of}
 use Rattle.relay_core.specs.Decided.{Offers}
 use Rattle.relay_core.specs.Follows.{Brought, brought_in, values_in}
 use Rattle.relay_core.specs.Log as log
-use Rattle.relay_core.specs.Log.Call.{hears}
+use Rattle.relay_core.specs.declared.call.Call.{Call}
+use Rattle.relay_core.specs.declared.call.Call.TheVariants as made
 use Rattle.relay_core.specs.StandsFor.{StandsFor, kept_of}
 use Rattle.relay_core.specs.Turned.{told, turned}
 use Rattle.relay_core.specs.declared.answers.Heard.{Heard}
@@ -22,7 +23,7 @@ abbrev brought : goal.After-self-3-1 → Brought
 brought c = brought_in c.hear-fresh.new.heard c.hear-fresh.result
 
 -- the peer that the bits come from, and what it brings
-received : (c : goal.After-self-3-1) (calls : List log.Call) → StandsFor c.args.self.now calls
+received : (c : goal.After-self-3-1) (calls : List Call) → StandsFor c.args.self.now calls
     → IsReceived (kept_of c.self.inside) calls c.args.now c.args.peer c.args.chunk.now c.span_with-span.result c.place_of-place.result c.index_mut.result.now
     c.hear-fresh.new.self (brought c)
 received c calls stands =
@@ -34,46 +35,9 @@ received c calls stands =
     Received t calls c.args.now c.args.peer c.args.chunk.now c.span_with-span.result c.place_of-place.result c.index_mut.result.now c.hear-fresh.new.self (brought c)
     held c.span_with-span.ensures at c.hear-fresh.ensures.follows c.hear-fresh.ensures.brings
 
-pub returns-clause-frame : goal.returns-clause-frame
-returns-clause-frame c = λ calls stands. rw (← c.self.view_is) ((received c calls stands).brings.frame ∙ ap (λ (h : Heard). option_to_list h.frame) (sym c.put.ensures.rest))
-
-pub returns-clause-news : goal.returns-clause-news
-returns-clause-news c = λ calls stands. rw (← c.self.view_is) ((received c calls stands).brings.news ∙ ap (λ (h : Heard). news_in h.news) (sym c.put.ensures.rest))
-
-pub returns-clause-refused : goal.returns-clause-refused
-returns-clause-refused c = λ calls stands. rw (← c.self.view_is) (ap (λ (h : Heard). h.refused) c.put.ensures.rest ∙ (received c calls stands).brings.refused)
-
-pub returns-clause-taken : goal.returns-clause-taken
-returns-clause-taken c = λ calls stands. rw (← c.self.view_is) ((received c calls stands).brings.taken ∙ ap (λ (h : Heard). option_to_list h.taken) (sym c.put.ensures.rest))
-
-pub returns-clause-chosen : goal.returns-clause-chosen
-returns-clause-chosen c = λ calls stands.
-    let t = kept_of c.self.inside in
-    let got = received c calls stands in
-    rw (← c.self.view_is)
-    (chosen-brought t.settings t.me calls c.args.peer (hears c.args.now c.args.peer c.args.chunk.now) (brought c) got.brings
-    ∙ ap option_to_list (sym c.put.ensures.chosen))
-
-pub returns-clause-placed : goal.returns-clause-placed
-returns-clause-placed c = λ calls stands.
-    let t = kept_of c.self.inside in
-    let got = received c calls stands in
-    rw (← c.self.view_is)
-    (ap (flat_map (placed_of t.settings (Offers t.settings t.me calls))) got.brings.values
-    ∙ c.put.ensures.placed t.settings t.me (Offers t.settings t.me calls) got.stands.decides)
-
-pub returns-clause-judged : goal.returns-clause-judged
-returns-clause-judged c = λ calls stands.
-    let t = kept_of c.self.inside in
-    let got = received c calls stands in
-    let offers = Offers-hears t.settings t.me c.args.now c.args.peer calls c.args.chunk.now (brought c) got.brings in
-    rw (← c.self.view_is)
-    (judged_by-offers t.settings t.me calls (hears c.args.now c.args.peer c.args.chunk.now) (values_in c.args.peer c.hear-fresh.new.heard.news c.hear-fresh.result) offers
-    ∙ c.put.ensures.judged t.settings t.me (Offers t.settings t.me calls) got.stands.decides)
-
 -- the terminal with what the peer brings
-served : (c : goal.After-self-3-1) (calls : List log.Call) → StandsFor c.args.self.now calls
-    → IsServed (kept_of c.self.inside) calls (hears c.args.now c.args.peer c.args.chunk.now) c.span_with-span.result c.self.inside.newest c.put.new.decider
+served : (c : goal.After-self-3-1) (calls : List Call) → StandsFor c.args.self.now calls
+    → IsServed (kept_of c.self.inside) calls (made.Bits c.args.now c.args.peer c.args.chunk.now) c.span_with-span.result c.self.inside.newest c.put.new.decider
     (set c.self.inside.peers.items c.place_of-place.result c.hear-fresh.new.self)
 served c calls stands =
     let t = kept_of c.self.inside in
@@ -82,15 +46,28 @@ served c calls stands =
     c.hear-fresh.new.self (brought c) got
     (c.put.ensures.decides t.settings t.me (Offers t.settings t.me calls) got.stands.decides) c.hear-fresh.ensures.station c.hear-fresh.ensures.alarms
 
-pub returns-clause-changes : goal.returns-clause-changes
-returns-clause-changes c = λ calls stands.
+pub returns-clause-answer : goal.returns-clause-answer
+returns-clause-answer c = λ calls stands.
     let t = kept_of c.self.inside in
+    let call = made.Bits c.args.now c.args.peer c.args.chunk.now in
     let span = c.span_with-span.result in
+    let got = received c calls stands in
+    let before = Offers t.settings t.me calls in
+    let offers = Offers-hears t.settings t.me c.args.now c.args.peer calls c.args.chunk.now (brought c) got.brings in
+    let rest = c.put.ensures.rest in
     rw (← c.self.view_is)
-    (c.turn_all.ensures.changes
-    ∙ ap (flat_map (told span.since span.now)) c.deref_mut.ensures.value
-    ∙ changes-turned t calls (hears c.args.now c.args.peer c.args.chunk.now) span t.newest c.put.new.decider
-    (set t.peers c.place_of-place.result c.hear-fresh.new.self) (served c calls stands))
+    (record {
+      frame = got.brings.frame ∙ ap (λ (h : Heard). option_to_list h.frame) (sym rest);
+      news = got.brings.news ∙ ap (λ (h : Heard). news_in h.news) (sym rest);
+      refused = ap (λ (h : Heard). h.refused) rest ∙ got.brings.refused;
+      taken = got.brings.taken ∙ ap (λ (h : Heard). option_to_list h.taken) (sym rest);
+      chosen = chosen-brought t.settings t.me calls c.args.peer call (brought c) got.brings ∙ ap option_to_list (sym c.put.ensures.chosen);
+      placed = ap (flat_map (placed_of t.settings before)) got.brings.values ∙ c.put.ensures.placed t.settings t.me before got.stands.decides;
+      judged = judged_by-offers t.settings t.me calls call (values_in c.args.peer c.hear-fresh.new.heard.news c.hear-fresh.result) offers
+          ∙ c.put.ensures.judged t.settings t.me before got.stands.decides;
+      changes = c.turn_all.ensures.changes ∙ ap (flat_map (told span.since span.now)) c.deref_mut.ensures.value
+          ∙ changes-turned t calls call span t.newest c.put.new.decider (set t.peers c.place_of-place.result c.hear-fresh.new.self) (served c calls stands);
+    })
 
 pub returns-clause-stands : goal.returns-clause-stands
 returns-clause-stands c = λ calls stands.
@@ -98,7 +75,7 @@ returns-clause-stands c = λ calls stands.
     let span = c.span_with-span.result in
     let place = c.place_of-place.result in
     let y = c.hear-fresh.new.self in
-    StandsFor-turned t calls (hears c.args.now c.args.peer c.args.chunk.now) span t.newest c.put.new.decider (set t.peers place y) _ (served c calls stands)
+    StandsFor-turned t calls (made.Bits c.args.now c.args.peer c.args.chunk.now) span t.newest c.put.new.decider (set t.peers place y) _ (served c calls stands)
     (written-mapped (turned span.since span.now) (with_item c.self.inside.peers place y) _ c.turn_all.new.peers c.deref_mut.ensures.value c.turn_all.ensures.turned)
 
 pub turn_all-requires-clause-calm : goal.turn_all-requires-clause-calm

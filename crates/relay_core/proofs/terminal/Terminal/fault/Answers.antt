@@ -3,7 +3,8 @@ use Rattle.std.specs.List.{flat_map}
 use Rattle.std.specs.Vec.{with_item}
 use Rattle.relay_core.specs.Follows.{Follows}
 use Rattle.relay_core.specs.Log as log
-use Rattle.relay_core.specs.Log.Call.{faults}
+use Rattle.relay_core.specs.declared.call.Call.{Call}
+use Rattle.relay_core.specs.declared.call.Call.TheVariants as made
 use Rattle.relay_core.specs.StandsFor.{StandsFor, kept_of}
 use Rattle.relay_core.specs.Turned.{told, turned}
 use Rattle.relay_core.proofs.Changing.{IsAt-place, calm-set, station-at, stations-set}
@@ -34,8 +35,8 @@ invariant_of-self c =
     }
 
 -- the terminal with the peer whose wire failed
-served : (c : goal.After-self-3-1) (calls : List log.Call) → StandsFor c.args.self.now calls
-    → IsServed (kept_of c.self.inside) calls (faults c.args.now c.args.peer) c.span_with-span.result c.self.inside.newest c.self.inside.decider
+served : (c : goal.After-self-3-1) (calls : List Call) → StandsFor c.args.self.now calls
+    → IsServed (kept_of c.self.inside) calls (made.Fault c.args.now c.args.peer) c.span_with-span.result c.self.inside.newest c.self.inside.decider
     (set c.self.inside.peers.items c.place_of-place.result c.fault.new.self)
 served c calls stands =
     let t = kept_of c.self.inside in
@@ -46,7 +47,7 @@ served c calls stands =
     let requires = rw (← c.self.view_is) at c.requires.station in
     let at = IsAt-place t.settings t.me t.peers place c.args.peer x c.self.invariant.peers (c.place_of-place.ensures t.settings requires) c.index_mut.ensures.value in
     let old = subst (Follows t.settings t.me calls) (sym at.is) (held.follow place x at.inside) in
-    let follows = subst (λ peer. Follows t.settings t.me (calls ++ faults c.args.now peer ∷ []) y) (station-at t.settings t.me t.peers place c.args.peer x at)
+    let follows = subst (λ peer. Follows t.settings t.me (calls ++ made.Fault c.args.now peer ∷ []) y) (station-at t.settings t.me t.peers place c.args.peer x at)
     (c.fault.ensures.follows t.settings t.me c.args.now calls old) in
     Served-faults t calls c.args.now c.args.peer c.span_with-span.result place x y held c.span_with-span.ensures at follows c.fault.ensures.station c.fault.ensures.alarms
 
@@ -57,12 +58,12 @@ returns-clause-changes c = λ calls stands.
     rw (← c.self.view_is)
     (c.turn_all.ensures.changes
     ∙ ap (flat_map (told span.since span.now)) c.deref_mut.ensures.value
-    ∙ changes-turned t calls (faults c.args.now c.args.peer) span t.newest t.decider (set t.peers c.place_of-place.result c.fault.new.self) (served c calls stands))
+    ∙ changes-turned t calls (made.Fault c.args.now c.args.peer) span t.newest t.decider (set t.peers c.place_of-place.result c.fault.new.self) (served c calls stands))
 
 pub returns-clause-stands : goal.returns-clause-stands
 returns-clause-stands c = λ calls stands.
     let t = kept_of c.self.inside in
     let span = c.span_with-span.result in
     let place = c.place_of-place.result in
-    StandsFor-turned t calls (faults c.args.now c.args.peer) span t.newest t.decider (set t.peers place c.fault.new.self) _ (served c calls stands)
+    StandsFor-turned t calls (made.Fault c.args.now c.args.peer) span t.newest t.decider (set t.peers place c.fault.new.self) _ (served c calls stands)
     (written-mapped (turned span.since span.now) (with_item c.self.inside.peers place c.fault.new.self) _ c.turn_all.new.peers c.deref_mut.ensures.value c.turn_all.ensures.turned)

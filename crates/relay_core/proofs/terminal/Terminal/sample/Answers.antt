@@ -4,7 +4,8 @@ use Rattle.sample_store.specs.Offers.{Own}
 use Rattle.relay_core.specs.Answers.{own_at}
 use Rattle.relay_core.specs.Decided.{Offers}
 use Rattle.relay_core.specs.Log as log
-use Rattle.relay_core.specs.Log.Call.{samples}
+use Rattle.relay_core.specs.declared.call.Call.{Call}
+use Rattle.relay_core.specs.declared.call.Call.TheVariants as made
 use Rattle.relay_core.specs.StandsFor.{StandsFor, kept_of}
 use Rattle.relay_core.specs.Turned.{told, turned}
 use Rattle.relay_core.proofs.Lists.{written-mapped}
@@ -24,28 +25,9 @@ invariant_of-self c =
       decided = c.own-own.ensures.now;
     }
 
-pub returns-clause-own : goal.returns-clause-own
-returns-clause-own c = λ calls stands.
-    let t = kept_of c.self.inside in
-    let held = rw (← c.self.view_is) at stands in
-    let at = span-served t calls (samples c.args.now c.args.v) c.span_with-span.result held c.span_with-span.ensures in
-    rw (← c.self.view_is)
-    (c.own-own.ensures.taken t.settings t.me (Offers t.settings t.me calls) held.decides ∙ ap (own_at t.settings t.me calls) at.time)
-
-pub returns-clause-judged : goal.returns-clause-judged
-returns-clause-judged c = λ calls stands.
-    let t = kept_of c.self.inside in
-    let call = samples c.args.now c.args.v in
-    let held = rw (← c.self.view_is) at stands in
-    let at = span-served t calls call c.span_with-span.result held c.span_with-span.ensures in
-    let offers = Offers-samples t.settings t.me c.args.now c.span_with-span.result.now calls c.args.v at.time in
-    rw (← c.self.view_is)
-    (judged_by-offers t.settings t.me calls call (Own c.span_with-span.result.now c.args.v ∷ []) offers
-    ∙ c.own-own.ensures.judged t.settings t.me (Offers t.settings t.me calls) held.decides)
-
 -- the terminal with the sample
-served : (c : goal.After-self-3-1) (calls : List log.Call) → StandsFor c.args.self.now calls
-    → IsServed (kept_of c.self.inside) calls (samples c.args.now c.args.v) c.span_with-span.result c.newest_after-self-inside.result c.own-own.new.self c.self.inside.peers.items
+served : (c : goal.After-self-3-1) (calls : List Call) → StandsFor c.args.self.now calls
+    → IsServed (kept_of c.self.inside) calls (made.Sample c.args.now c.args.v) c.span_with-span.result c.newest_after-self-inside.result c.own-own.new.self c.self.inside.peers.items
 served c calls stands =
     let t = kept_of c.self.inside in
     let held = rw (← c.self.view_is) at stands in
@@ -53,18 +35,26 @@ served c calls stands =
     (c.own-own.ensures.taken t.settings t.me (Offers t.settings t.me calls) held.decides) c.newest_after-self-inside.ensures
     (c.own-own.ensures.decides t.settings t.me (Offers t.settings t.me calls) held.decides)
 
-pub returns-clause-changes : goal.returns-clause-changes
-returns-clause-changes c = λ calls stands.
+pub returns-clause-answer : goal.returns-clause-answer
+returns-clause-answer c = λ calls stands.
     let t = kept_of c.self.inside in
+    let call = made.Sample c.args.now c.args.v in
     let span = c.span_with-span.result in
+    let held = rw (← c.self.view_is) at stands in
+    let at = span-served t calls call span held c.span_with-span.ensures in
+    let offers = Offers-samples t.settings t.me c.args.now span.now calls c.args.v at.time in
+    let before = Offers t.settings t.me calls in
     rw (← c.self.view_is)
-    (c.turn_all.ensures.changes
-    ∙ ap (flat_map (told span.since span.now)) c.deref_mut.ensures.value
-    ∙ changes-turned t calls (samples c.args.now c.args.v) span c.newest_after-self-inside.result c.own-own.new.self t.peers (served c calls stands))
+    (record {
+      own = c.own-own.ensures.taken t.settings t.me before held.decides ∙ ap (own_at t.settings t.me calls) at.time;
+      judged = judged_by-offers t.settings t.me calls call (Own span.now c.args.v ∷ []) offers ∙ c.own-own.ensures.judged t.settings t.me before held.decides;
+      changes = c.turn_all.ensures.changes ∙ ap (flat_map (told span.since span.now)) c.deref_mut.ensures.value
+          ∙ changes-turned t calls call span c.newest_after-self-inside.result c.own-own.new.self t.peers (served c calls stands);
+    })
 
 pub returns-clause-stands : goal.returns-clause-stands
 returns-clause-stands c = λ calls stands.
     let t = kept_of c.self.inside in
     let span = c.span_with-span.result in
-    StandsFor-turned t calls (samples c.args.now c.args.v) span c.newest_after-self-inside.result c.own-own.new.self t.peers _ (served c calls stands)
+    StandsFor-turned t calls (made.Sample c.args.now c.args.v) span c.newest_after-self-inside.result c.own-own.new.self t.peers _ (served c calls stands)
     (written-mapped (turned span.since span.now) c.self.inside.peers _ c.turn_all.new.peers c.deref_mut.ensures.value c.turn_all.ensures.turned)

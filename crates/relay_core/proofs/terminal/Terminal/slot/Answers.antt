@@ -2,7 +2,8 @@ use Rattle.std.proofs.Common.{◌≡◌, List, ◌∙◌, ap, length, map}
 use Rattle.std.specs.Vec.{with_items}
 use Rattle.std.proofs.lemmas.List.{length-map}
 use Rattle.relay_core.specs.Log as log
-use Rattle.relay_core.specs.Log.Call.{sends}
+use Rattle.relay_core.specs.declared.call.Call.{Call}
+use Rattle.relay_core.specs.declared.call.Call.TheVariants as made
 use Rattle.relay_core.specs.Sends.{AllSend}
 use Rattle.relay_core.specs.StandsFor.{StandsFor, kept_of}
 use Rattle.relay_core.specs.Turned.{turned}
@@ -24,8 +25,8 @@ sent : (c : goal.After-self-2-1)
     → AllSend c.self.inside.me c.span_with-span.result.now c.self.inside.newest c.self.inside.peers.items (left c) c.send_to_all.new.slotted.frames.items
 sent c = rw (c.deref_mut.ensures.value) at c.send_to_all.ensures.sent
 
-served : (c : goal.After-self-2-1) (calls : List log.Call) → StandsFor c.args.self.now calls
-    → IsServed (kept_of c.self.inside) calls (sends c.args.now) c.span_with-span.result c.self.inside.newest c.self.inside.decider (left c)
+served : (c : goal.After-self-2-1) (calls : List Call) → StandsFor c.args.self.now calls
+    → IsServed (kept_of c.self.inside) calls (made.Slot c.args.now) c.span_with-span.result c.self.inside.newest c.self.inside.decider (left c)
 served c calls stands =
     Served-sends (kept_of c.self.inside) calls c.args.now c.span_with-span.result (left c) c.send_to_all.new.slotted.frames.items
     (rw (← c.self.view_is) at stands) c.span_with-span.ensures (sent c)
@@ -38,23 +39,20 @@ turned_all c =
     let long = ap length is ∙ length-map (left c) (turned c.span_with-span.result.since c.span_with-span.result.now) ∙ (sent c).long in
     written c.self.inside.peers c.send_to_all.new.peers long ∙ is
 
-pub returns-clause-frames : goal.returns-clause-frames
-returns-clause-frames c = λ calls stands.
-    rw (← c.self.view_is)
-    (outgo-sends (kept_of c.self.inside) calls c.args.now c.span_with-span.result (left c) c.send_to_all.new.slotted.frames.items
-    (rw (← c.self.view_is) at stands) c.span_with-span.ensures (sent c))
-
-pub returns-clause-changes : goal.returns-clause-changes
-returns-clause-changes c = λ calls stands.
+pub returns-clause-answer : goal.returns-clause-answer
+returns-clause-answer c = λ calls stands.
     let t = kept_of c.self.inside in
+    let span = c.span_with-span.result in
     rw (← c.self.view_is)
-    (c.send_to_all.ensures.is_told
-    ∙ changes-turned t calls (sends c.args.now) c.span_with-span.result t.newest t.decider (left c) (served c calls stands))
+    (record {
+      frames = outgo-sends t calls c.args.now span (left c) c.send_to_all.new.slotted.frames.items (rw (← c.self.view_is) at stands) c.span_with-span.ensures (sent c);
+      changes = c.send_to_all.ensures.is_told ∙ changes-turned t calls (made.Slot c.args.now) span t.newest t.decider (left c) (served c calls stands);
+    })
 
 pub returns-clause-stands : goal.returns-clause-stands
 returns-clause-stands c = λ calls stands.
     let t = kept_of c.self.inside in
-    StandsFor-turned t calls (sends c.args.now) c.span_with-span.result t.newest t.decider (left c) _ (served c calls stands) (turned_all c)
+    StandsFor-turned t calls (made.Slot c.args.now) c.span_with-span.result t.newest t.decider (left c) _ (served c calls stands) (turned_all c)
 
 pub invariant_of-self : goal.invariant_of-self
 invariant_of-self c =
