@@ -1,3 +1,4 @@
+pub mod Currents
 pub mod Products
 pub mod Ranges
 pub mod Insides

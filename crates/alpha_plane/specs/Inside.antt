@@ -24,9 +24,9 @@ norm z = square (unsigned_abs z.re) + square (unsigned_abs z.im)
 abbrev pub side_bits : ℕ
 side_bits = 14
 
--- the norm of a phasor has at most 73 bits
+-- the norm of a current has at most 97 bits
 abbrev pub norm_bits : ℕ
-norm_bits = 73
+norm_bits = 97
 
 -- the real part of l times the conjugate of r
 abbrev pub dot : Point → Point → ℤ

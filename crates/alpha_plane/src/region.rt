@@ -1,11 +1,11 @@
 ghost use Rattle.std.specs.Prelude.{◌≡◌, ◌⊎◌, ◌≤◌, ◌*◌, ◌^◌, ◌&&◌, [], None, Some, length, All, MatchResult, nat_le, nat_lt, pos, ◌*ℤ◌, neg_ℤ, int_le, unsigned_abs};
 ghost use Rattle.alpha_plane.specs.Inside.{Inside, sector, square, norm, norm_bits, dot, cross};
-ghost use Rattle.alpha_plane.specs.Outside.{OutsideAll, each_outside};
-ghost use Rattle.phasor.specs.Factors.{scale};
+ghost use Rattle.alpha_plane.specs.Outside.{OutsideAll, OutsideBeyond, each_outside, station_bits};
 ghost use Rattle.alpha_plane.specs.Region.{region_fault};
 ghost use Rattle.phasor.specs.Point.{IsWithin, total};
 ghost use Rattle.phasor.specs.Sizes.{sum_bits};
 
+use crate::Current;
 use ld_base::Wide;
 use phasor::Phasor;
 use std::marker::Model;
@@ -13,14 +13,14 @@ use std::marker::Model;
 // The largest number of a region's radius and direction.
 const LARGEST: u32 = 10_000;
 
-// The bits of those numbers, of a phasor's parts, of their products, and of a norm, a dot or a cross product.
+// The bits of those numbers, of a current's parts, of their products, and of a norm, a dot or a cross product.
 const SIDE_BITS: u32 = 14;
 
-const PART_BITS: u32 = 36;
+const PART_BITS: u32 = 48;
 
-const PRODUCT_BITS: u32 = 72;
+const PRODUCT_BITS: u32 = 96;
 
-const NORM_BITS: u32 = 73;
+const NORM_BITS: u32 = 97;
 
 // The scale of the phasor tables.
 const SCALE: u64 = 16_384;
@@ -80,6 +80,13 @@ impl Region {
     pub fn inside(&self, l: Phasor, r: Phasor) -> bool
         ensures { result ≡ Inside self.now l r }
     {
+        self.contains(Current::from(l), Current::from(r))
+    }
+
+    // The same of currents of any scale.
+    fn contains(&self, l: Current, r: Current) -> bool
+        ensures { result ≡ Inside self.now l r }
+    {
         self.is_within_radius(norm(l), norm(r)) && self.is_at_most_angle(dot(l, r), cross(l, r))
     }
 
@@ -116,27 +123,42 @@ impl Region {
         requires cycle { (4 ≤ cycle) × (cycle ≤ 20) }
         ensures { result ≡ OutsideAll self.now pickup cycle sums.now }
     {
-        let total = total(sums);
-        passes_pickup(total, pickup, cycle) && self.each_outside(sums, total)
+        let limit = u64::from(pickup) * u64::from(cycle) * SCALE;
+        if sums.len() == 2 {
+            return self.outside_beyond(&two_currents(sums), limit);
+        }
+        self.outside_beyond(&three_currents(sums), limit)
     }
 
-    // Whether each of two or three sums lies outside against the others, which are their total without it. Of two, one
+    /// Whether the currents of the stations lie outside the region: the amplitude of their total is more than half the
+    /// limit, and each of them lies outside against the sum of the others. They may be of any scale, and `limit` is of the
+    /// same.
+    pub fn outside_beyond(&self, currents: &[Current], limit: u64) -> bool
+        requires stations { (length currents.now ≡ 2) ⊎ (length currents.now ≡ 3) }
+        requires size { All (IsWithin station_bits) currents.now }
+        ensures { result ≡ OutsideBeyond self.now limit currents.now }
+    {
+        let total = total(currents);
+        passes(total, limit) && self.each_outside(currents, total)
+    }
+
+    // Whether each of two or three currents lies outside against the others, which are their total without it. Of two, one
     // lies outside as the other does.
     #[inline(never)]
     #[tactic(auto, using(crate::proofs::Outsides::stations))]
-    fn each_outside(&self, sums: &[Phasor], differential: Phasor) -> bool
-        requires stations { (length sums.now ≡ 2) ⊎ (length sums.now ≡ 3) }
-        requires size { All (IsWithin sum_bits) sums.now }
-        requires total { differential ≡ total sums.now }
-        requires total_size { (unsigned_abs differential.re ≤ 3 * 2 ^ sum_bits)
-            × (unsigned_abs differential.im ≤ 3 * 2 ^ sum_bits) }
-        ensures { result ≡ each_outside self.now [] sums.now }
+    fn each_outside(&self, currents: &[Current], differential: Current) -> bool
+        requires stations { (length currents.now ≡ 2) ⊎ (length currents.now ≡ 3) }
+        requires size { All (IsWithin station_bits) currents.now }
+        requires total { differential ≡ total currents.now }
+        requires total_size { (unsigned_abs differential.re ≤ 3 * 2 ^ station_bits)
+            × (unsigned_abs differential.im ≤ 3 * 2 ^ station_bits) }
+        ensures { result ≡ each_outside self.now [] currents.now }
     {
-        if sums.len() == 2 {
-            return !self.inside(sums[0], sums[1]);
+        if currents.len() == 2 {
+            return !self.contains(currents[0], currents[1]);
         }
-        for sum in sums {
-            if self.inside(*sum, differential.minus(*sum)) {
+        for current in currents {
+            if self.contains(*current, differential.minus(*current)) {
                 return false;
             }
         }
@@ -144,35 +166,54 @@ impl Region {
     }
 }
 
-// The sum of two or three phasors.
-#[tactic(auto, using(crate::proofs::Totals::steps))]
-fn total(sums: &[Phasor]) -> Phasor
-    requires few { length sums.now ≤ 3 }
-    requires size { All (IsWithin sum_bits) sums.now }
-    ensures total { result ≡ total sums.now }
-    ensures size { (unsigned_abs result.re ≤ 3 * 2 ^ sum_bits) × (unsigned_abs result.im ≤ 3 * 2 ^ sum_bits) }
+// Two sums as currents.
+fn two_currents(sums: &[Phasor]) -> [Current; 2]
+    requires { length sums.now ≡ 2 }
+    ensures { result ≡ sums.now }
 {
-    let mut total = Phasor::zero();
-    for sum in sums {
-        total = total.plus(*sum);
+    [Current::from(sums[0]), Current::from(sums[1])]
+}
+
+// Three sums as currents.
+fn three_currents(sums: &[Phasor]) -> [Current; 3]
+    requires { length sums.now ≡ 3 }
+    ensures { result ≡ sums.now }
+{
+    [
+        Current::from(sums[0]),
+        Current::from(sums[1]),
+        Current::from(sums[2]),
+    ]
+}
+
+// The sum of two or three currents.
+#[tactic(auto, using(crate::proofs::Totals::steps))]
+fn total(currents: &[Current]) -> Current
+    requires few { length currents.now ≤ 3 }
+    requires size { All (IsWithin station_bits) currents.now }
+    ensures total { result ≡ total currents.now }
+    ensures size { (unsigned_abs result.re ≤ 3 * 2 ^ station_bits) × (unsigned_abs result.im ≤ 3 * 2 ^ station_bits) }
+{
+    let mut total = Current::zero();
+    for current in currents {
+        total = total.plus(*current);
     }
     total
 }
 
-// Whether a differential current is above the pickup. Most currents lie so far below it that the sum of their parts does.
-fn passes_pickup(total: Phasor, pickup: u16, cycle: u8) -> bool
-    requires { cycle ≤ 20 }
-    ensures { result ≡ nat_lt (square (pickup * cycle * scale)) (4 * norm total) }
+// Whether a differential current is more than half the limit. Most currents lie so far below it that the sum of their parts
+// does.
+fn passes(total: Current, limit: u64) -> bool
+    ensures { result ≡ nat_lt (square limit) (4 * norm total) }
 {
-    let limit = u64::from(pickup) * u64::from(cycle) * SCALE;
     if 2 * (total.re.unsigned_abs() + total.im.unsigned_abs()) <= limit {
         return false;
     }
     u128::from(limit) * u128::from(limit) < 4 * norm(total)
 }
 
-// The square of a phasor's amplitude.
-fn norm(z: Phasor) -> u128
+// The square of a current's amplitude.
+fn norm(z: Current) -> u128
     ensures norm { result ≡ norm z }
     ensures size { result ≤ 2 ^ norm_bits }
 {
@@ -184,7 +225,7 @@ fn norm(z: Phasor) -> u128
 }
 
 // The real part of `l` times the conjugate of `r`.
-fn dot(l: Phasor, r: Phasor) -> Wide
+fn dot(l: Current, r: Current) -> Wide
     ensures dot { result ≡ dot l r }
     ensures size { unsigned_abs result ≤ 2 ^ norm_bits }
 {
@@ -194,7 +235,7 @@ fn dot(l: Phasor, r: Phasor) -> Wide
 }
 
 // The imaginary part of `r` times the conjugate of `l`.
-fn cross(l: Phasor, r: Phasor) -> Wide
+fn cross(l: Current, r: Current) -> Wide
     ensures cross { result ≡ cross l r }
     ensures size { unsigned_abs result ≤ 2 ^ norm_bits }
 {

@@ -1,4 +1,5 @@
 pub mod Columns
+pub mod Counted
 pub mod Judged
 pub mod Outs
 pub mod Recents

@@ -16,7 +16,7 @@ use Rattle.phasor.proofs.Threes.{of_three_at}
 use Rattle.alpha_plane.specs.Inside.{norm, square}
 use Rattle.alpha_plane.specs.Outside.{each_outside}
 use Rattle.trip_logic.specs.Through.{sum_over_stations, IsThrough}
-use Rattle.trip_logic.specs.TripAt.{sector_of, column, are_outside, Out}
+use Rattle.trip_logic.specs.TripAt.{sector_of, column, is_outside, passes_where_known, Out}
 
 -- the total over the stations is the sum of their values
 module _ (c phase : ℕ) (sets : List SampleSet) (within : phase < 3) where
@@ -65,7 +65,7 @@ module _ (c phase : ℕ) (sets : List SampleSet) (within : phase < 3) where
   total-column (suc (suc (suc (suc stations)))) = total-column_all
 
 -- so it is zero where these are
-total-zero : (c phase : ℕ) (sets : List SampleSet) (stations : ℕ) → phase < 3
+pub total-zero : (c phase : ℕ) (sets : List SampleSet) (stations : ℕ) → phase < 3
     → All (λ set. sum_over_stations stations phase set ≡ pos 0) sets
     → total (column stations phase (sums_of c sets)) ≡ origin
 total-zero c phase sets stations within all =
@@ -80,7 +80,7 @@ Out-through f judged phase n within through =
   where
     by : (sets : Option (List SampleSet))
         → ((all : List SampleSet) → sets ≡ Some all → All (λ set. sum_over_stations f.stations phase set ≡ pos 0) all)
-        → are_outside f phase (option_map (sums_of f.cycle) sets) ≡ false
+        → passes_where_known (is_outside f phase) (option_map (sums_of f.cycle) sets) ≡ false
     by None all_zero = refl
     by (Some sets) all_zero =
         let none = total-zero f.cycle phase sets f.stations within (all_zero sets refl) in

@@ -1,4 +1,5 @@
 pub mod Cause
+pub mod Counting
 pub mod Progress
 pub mod Through
 pub mod TripAt

@@ -4,7 +4,7 @@ use Rattle.ld_base.specs.declared.fields.Fields.{Fields}
 use Rattle.ld_base.specs.declared.phases.SampleSet.{SampleSet}
 use Rattle.phasor.specs.Window.{Kept}
 use Rattle.phasor.specs.Window as window
-use Rattle.trip_logic.specs.TripAt.{outs_before}
+use Rattle.trip_logic.specs.TripAt.{Test, outs_before_by, is_outside}
 
 -- the settings, the last cycle of sets, for each phase how many consecutive sets were outside, up to the count of a trip, and the
 -- sets that may have led to a trip
@@ -24,14 +24,15 @@ pub record AreLast (most : ℕ) (judged recent : List SampleSet) : Type 0 where
   pub parts : judged ≡ before ++ recent
   pub many : length recent ≡ min (length judged) most
 
--- the phase was outside in exactly the last `run` sets judged, or in at least so many where that is the count of a trip
-pub record IsRun (settings : Fields) (judged : List SampleSet) (stop phase run : ℕ) : Type 0 where
-  pub capped : run ≤ settings.count
-  pub outside : outs_before settings judged phase run stop ≡ true
-  pub ends : run < settings.count → outs_before settings judged phase (suc run) stop ≡ false
+-- the test was passed in exactly the last `run` sets judged before `stop`, or in at least so many where that is the count of a trip
+pub record IsRun (test : Test) (c count : ℕ) (judged : List SampleSet) (stop run : ℕ) : Type 0 where
+  pub capped : run ≤ count
+  pub outside : outs_before_by test c judged run stop ≡ true
+  pub ends : run < count → outs_before_by test c judged (suc run) stop ≡ false
 
 -- a trip rule stands for the sets that it judged
 pub record StandsFor (trip : Progress) (judged : List SampleSet) : Type 0 where
   pub window : window.StandsFor trip.window judged
   pub recent : AreLast (most_recent trip.settings) judged trip.recent
-  pub runs : (phase : ℕ) → phase < 3 → IsRun trip.settings judged trip.window.next phase (slice_index trip.runs phase)
+  pub runs : (phase : ℕ) → phase < 3
+      → IsRun (is_outside trip.settings phase) trip.settings.cycle trip.settings.count judged trip.window.next (slice_index trip.runs phase)

@@ -1,23 +1,22 @@
-ghost use Rattle.std.specs.Prelude.{◌≡◌, ℕ, ◌<◌, ◌≤◌, ◌+◌, ◌++◌, [], ◌∷◌, ◌==◌, List, IfOk, false, if◌then◌else◌, is_none, min, nat_lt, option_copied, option_map, slice_index, slice_index_or, unwrap_or};
+ghost use Rattle.std.specs.Prelude.{◌≡◌, ℕ, ◌<◌, ◌≤◌, ◌+◌, ◌++◌, [], ◌∷◌, List, IfOk, false, if◌then◌else◌, is_none, option_copied, option_map, slice_index, slice_index_or, unwrap_or};
 ghost use Rattle.std.specs.Option.{ForSome};
 ghost use Rattle.ld_base.specs.Settings.{AreInRange};
 ghost use Rattle.ld_base.specs.declared.phases.SampleSet.{SampleSet};
 ghost use Rattle.phasor.specs.Sizes.{AreWithin, sum_bits};
 ghost use Rattle.phasor.specs.Sum.{of_three};
-ghost use Rattle.phasor.specs.Window as window;
 ghost use Rattle.trip_logic.specs.Cause.{cause};
+ghost use Rattle.trip_logic.specs.Counting.{run_after, verdict_of};
 ghost use Rattle.trip_logic.specs.Progress.{StandsFor};
 ghost use Rattle.trip_logic.specs.declared.verdict.Verdict.TheVariants as verdict;
 ghost use Rattle.trip_logic.specs.TripAt.{is_outside, sector_of, verdicts};
 
-use crate::Verdict;
+use crate::{Verdict, push_uncounted, region_of, run_after, verdict_of};
 use alpha_plane::Region;
 use circular_buffer::HeapCircularBuffer;
 use ld_base::{Fields, NoMemory, SampleSet, Settings};
-use phasor::{Phasor, Steps, Window};
+use phasor::{Phasor, Window};
 use std::alloc::Global;
-use std::marker::{Brand, Model};
-use std::sync::ledger::{Blank, Ledger};
+use std::marker::Model;
 
 /// The trip rule of a line, with what it keeps of the sets judged so far.
 #[derive(Drop)]
@@ -52,13 +51,10 @@ impl Trip {
     {
         let settings = *s;
         let fields = settings.fields();
-        let Ok(region) = Region::new(fields.rn, fields.rd, fields.p, fields.q) else {
-            unreachable!()
-        };
         let most = usize::from(fields.cycle) + usize::from(fields.count);
         Ok(Trip {
             settings,
-            region,
+            region: region_of(s),
             window: Window::new(fields.cycle),
             runs: [0; 3],
             recent: HeapCircularBuffer::with_capacity(alloc, most)?,
@@ -77,7 +73,7 @@ impl Trip {
         ensures earlier { (judged : List SampleSet) (n : ℕ) → n < set.now.number
             → verdicts self.old.settings (judged ++ set.now ∷ []) n ≡ verdicts self.old.settings judged n }
     {
-        push_uncounted::<Brand>(&mut self.window, set, Blank::new(1));
+        push_uncounted(&mut self.window, set);
         self.recent.push_back(*set);
         let fields = self.settings.fields();
         let outside = phases_outside(&fields, &self.region, self.window.sums());
@@ -93,20 +89,6 @@ impl Trip {
     {
         self.recent.nth_back(back)
     }
-}
-
-// Pushes a set where nobody counts the products.
-fn push_uncounted<L: Ledger>(kept: &mut Window, set: &SampleSet, blank: Blank)
-    requires later { kept.old.next ≤ set.now.number }
-    requires name { blank.name ≡ L.name }
-    requires parts { blank.parts ≡ L.parts }
-    requires some { 0 < blank.parts }
-    ensures cycle { kept.new.cycle ≡ kept.old.cycle }
-    ensures next { kept.new.next ≡ set.now.number + 1 }
-    ensures stands { (judged : List SampleSet) → window.StandsFor kept.old judged
-        → window.StandsFor kept.new (judged ++ set.now ∷ []) }
-{
-    kept.push(set.number, &set.values, &mut Steps::<L>::new(blank));
 }
 
 // For each phase whether its sums lie outside. None where there are no sums.
@@ -143,8 +125,8 @@ fn is_outside(fields: &Fields, region: &Region, sums: &[[Phasor; 3]; 3], phase: 
 
 // How many consecutive sets were outside, up to `count`, after one more.
 fn runs_after(runs: &[u8; 3], outside: Option<[bool; 3]>, count: u8) -> [u8; 3]
-    ensures { result ≡ of_three (λ phase. if unwrap_or (option_map (λ flags. slice_index_or flags phase false) outside) false
-        then min count (slice_index runs.now phase + 1) else 0) }
+    ensures { result ≡ of_three (λ phase. run_after (slice_index runs.now phase)
+        (unwrap_or (option_map (λ flags. slice_index_or flags phase false) outside) false) count) }
 {
     match outside {
         None => [0; 3],
@@ -156,22 +138,9 @@ fn runs_after(runs: &[u8; 3], outside: Option<[bool; 3]>, count: u8) -> [u8; 3]
     }
 }
 
-fn run_after(run: u8, outside: bool, count: u8) -> u8
-    ensures { result ≡ (if outside then min count (run + 1) else 0) }
-{
-    if outside {
-        count.min(run.saturating_add(1))
-    } else {
-        0
-    }
-}
-
 // The verdicts after these runs of consecutive sets outside.
 fn verdicts_of(runs: &[u8; 3], outside: Option<[bool; 3]>, count: u8) -> [Verdict; 3]
-    ensures { result ≡ of_three (λ phase. if is_none outside then verdict.Waiting
-        else if slice_index runs.now phase == count then verdict.Trip
-        else if nat_lt 0 (slice_index runs.now phase) then verdict.Outside
-        else verdict.Restrain) }
+    ensures { result ≡ of_three (λ phase. if is_none outside then verdict.Waiting else verdict_of (slice_index runs.now phase) count) }
 {
     match outside {
         None => [Verdict::Waiting; 3],
@@ -180,18 +149,6 @@ fn verdicts_of(runs: &[u8; 3], outside: Option<[bool; 3]>, count: u8) -> [Verdic
             verdict_of(runs[1], count),
             verdict_of(runs[2], count),
         ],
-    }
-}
-
-fn verdict_of(run: u8, count: u8) -> Verdict
-    ensures { result ≡ (if run == count then verdict.Trip else if nat_lt 0 run then verdict.Outside else verdict.Restrain) }
-{
-    if run == count {
-        Verdict::Trip
-    } else if run > 0 {
-        Verdict::Outside
-    } else {
-        Verdict::Restrain
     }
 }
 

@@ -2,8 +2,8 @@ use Rattle.std.proofs.Common.{◌≡◌, ◌*◌, ◌^◌, ◌≤◌, unsigned_a
 use Rattle.phasor.specs.Point.{total}
 use Rattle.alpha_plane.proofs.region.total.Given as goal
 
-abbrev pub invariant-loop-sum : goal.invariant-loop-sum
-invariant-loop-sum l = record {
-  so_far : l.total ≡ total (take l.sum-index l.sums);
-  size : (unsigned_abs l.total.re ≤ l.sum-index * 2 ^ 34) × (unsigned_abs l.total.im ≤ l.sum-index * 2 ^ 34);
+abbrev pub invariant-loop-current : goal.invariant-loop-current
+invariant-loop-current l = record {
+  so_far : l.total ≡ total (take l.current-index l.currents);
+  size : (unsigned_abs l.total.re ≤ l.current-index * 2 ^ 46) × (unsigned_abs l.total.im ≤ l.current-index * 2 ^ 46);
 }

@@ -3,9 +3,9 @@ use Rattle.std.proofs.Common.{refl, ap, ◌∙◌, subst}
 use Rattle.circular_buffer.specs.Buffer.{Buffer, keep_last}
 use Rattle.ld_base.specs.declared.phases.SampleSet.{SampleSet}
 use Rattle.trip_logic.specs.Progress.{Progress, StandsFor}
-use Rattle.trip_logic.specs.TripAt.{verdicts}
+use Rattle.trip_logic.specs.TripAt.{is_outside, verdicts}
 use Rattle.trip_logic.proofs.Judged.{judged_push}
-use Rattle.trip_logic.proofs.Outs.{verdict-push}
+use Rattle.trip_logic.proofs.Outs.{verdict_by-push}
 use Rattle.trip_logic.proofs.trip.Trip.judge.Goals as goal
 use Rattle.trip_logic.proofs.trip.Trip.judge.Goals.{After-verdicts_of}
 
@@ -38,5 +38,6 @@ returns-clause-verdicts c = λ judged stands.
 
 pub returns-clause-earlier : goal.returns-clause-earlier
 returns-clause-earlier c = λ judged n below.
-    let same = λ (phase : ℕ). verdict-push c.args.self.now.settings judged c.args.set.now n phase below in
+    let f = c.args.self.now.settings in
+    let same = λ (phase : ℕ). verdict_by-push (is_outside f phase) f.cycle f.count judged c.args.set.now n below in
     rw (same 0, same 1, same 2) refl

@@ -2,7 +2,7 @@
 use Rattle.std.proofs.Common.{arith, w32, FitsSigned}
 use Rattle.std.proofs.lemmas.Int.{ints, to_z-of_z}
 use Rattle.trip_logic.proofs.Regions.{region_fault-in_range}
-use Rattle.trip_logic.proofs.trip.Trip.new.Goals as goal
+use Rattle.trip_logic.proofs.counting.region_of.Goals as goal
 
 pub unreachable-requires : goal.unreachable-requires
 unreachable-requires c =
