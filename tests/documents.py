@@ -101,7 +101,7 @@ def cases():
     records = [row[0].strip("`") for row in rows("docs/FORMATS.md", "Scenario")]
     yield "FORMATS.md has each record of a scenario", records, ["#", "set"] + words_of(names, "kind_name")
     alarms = [row[0].strip("`") for row in rows("docs/FORMATS.md", "Report", "| name |")]
-    yield "FORMATS.md has each alarm", alarms, re.findall(r'(?m)^alarm_name \w+ = codes "(\w+)"$', text_of("crates/bench_cmd/specs/ReportLines.antt"))
+    yield "FORMATS.md has each alarm", alarms, re.findall(r'(?m)^alarm_name \w+ = codes "(\w+)"$', text_of("crates/text_lines/specs/Words.antt"))
     reasons = re.findall(r"(?m)^reason_number reason\.(\w+) = (\d)$", text_of("crates/bench_cmd/specs/Faults.antt"))
     for heading in ("Judge", "Rules of a scenario"):
         told = {(row[1].strip("`"), row[0]) for row in rows("docs/FORMATS.md", heading)}

@@ -4,9 +4,9 @@ use Rattle.std.specs.Prelude.{All, codes, decimal, filter, nat_le}
 use Rattle.std.specs.List.{sum_by}
 use Rattle.std.proofs.lemmas.List.Elements.{All-from_recursion}
 use Rattle.std.proofs.lemmas.List.Sums.{count_by-le-length, length-filter, sum_by-cons}
-use Rattle.row_reader.specs.PlainRows.{behind_commas}
 use Rattle.row_reader.specs.Rows.{rows_of}
 use Rattle.waveform_reader.specs.Scenario.{Setup, scenario_of}
+use Rattle.text_lines.proofs.Rows.{row-line_of}
 use Rattle.scenario_generator.proofs.Fields.{IsLong}
 use Rattle.scenario_generator.specs.Rows.{remark_line, scenario_text}
 use Rattle.pingpong.specs.declared.journal.Entry.{Entry}
@@ -20,7 +20,6 @@ use Rattle.line_world.specs.Totals.{TotalOf}
 use Rattle.line_world.specs.declared.line.Total.{Total}
 use Rattle.relay_core.specs.declared.call.Call.{Call}
 use Rattle.bench_cmd.specs.GeneratorText.{generated_text, run_sums, sums, sums_line, sums_of}
-use Rattle.bench_cmd.specs.ReportLines.{fields_text}
 use Rattle.bench_cmd.specs.ReportText.{bench_text, report_of, report_or, totals_of}
 
 -- the text of a number whose scenario is that
@@ -29,19 +28,13 @@ pub generated-sums : (number ticks : ℕ) (s : Setup) → scenario_of (rows_of (
 unfolding generated_text
 generated-sums number ticks s read = ap (λ r. scenario_text number ticks ++ run_sums r) read
 
--- fields behind commas, and the end of their line
-fields-line : (fields : List (List ℕ)) → fields_text fields ≡ behind_commas fields ++ 10 ∷ []
-fields-line [] = refl
-fields-line (field ∷ fields) =
-    ap (λ (t : List ℕ). (44 ∷ field) ++ t) (fields-line fields) ∙ sym (append_assoc (44 ∷ field) (behind_commas fields) (10 ∷ []))
-
 -- the numbers of a line of sums
 abbrev pub sum_numbers : List Total → ℕ → List ℤ
 sum_numbers totals forged = map (λ n. pos n) (sums totals ++ forged ∷ [])
 
 -- it is a remark
 pub sums_remark : (totals : List Total) (forged : ℕ) → sums_line totals forged ≡ remark_line (sum_numbers totals forged)
-sums_remark totals forged = ap (λ (t : List ℕ). codes "#" ++ t) (fields-line (map decimal (sums totals ++ forged ∷ [])))
+sums_remark totals forged = row-line_of (codes "#") (map decimal (sums totals ++ forged ∷ []))
 
 -- a count of some stations together
 sum_small : (f : Fields) (journal : List Entry) (count : Total → ℕ) (these : List ℕ) → ((me : ℕ) (log : List Call) → count (TotalOf f me log) ≤ last_count)

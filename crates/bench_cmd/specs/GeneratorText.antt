@@ -10,7 +10,7 @@ use Rattle.line_world.specs.Crossings.{Forged}
 use Rattle.line_world.specs.Occasions.{stations}
 use Rattle.line_world.specs.Run.{Run}
 use Rattle.line_world.specs.declared.line.Total.{Total}
-use Rattle.bench_cmd.specs.ReportLines.{row}
+use Rattle.text_lines.specs.Lines.{row}
 use Rattle.bench_cmd.specs.ReportText.{totals_of}
 
 -- what some stations counted together: messages accepted, sets, and trips

@@ -10,11 +10,11 @@ use Rattle.ld_base.specs.declared.reason.Reason.TheVariants as reason
 use Rattle.ld_base.specs.Phases.{no_current}
 use Rattle.trip_logic.specs.TripAt.{verdicts}
 use Rattle.trip_logic.specs.declared.verdict.Verdict.{Verdict}
-use Rattle.trip_logic.specs.declared.verdict.Verdict.TheVariants.{Waiting, Restrain, Outside, Trip}
 use Rattle.row_reader.specs.RowNumbers.{is_between, number_at, numbers_of}
 use Rattle.row_reader.specs.Faults.{first_fault, unless}
 use Rattle.row_reader.specs.declared.fault.Fault.{Fault}
 use Rattle.row_reader.specs.Rows.{Row}
+use Rattle.text_lines.specs.Words.{letter}
 
 -- a value of 16 bits
 abbrev pub is_value : ℤ → Bool
@@ -63,13 +63,6 @@ row_faults next (row ∷ rows) = row_fault next row ∷ row_faults (suc (set_of 
 -- the settings of `judge`: two stations, five channels, and the defaults with that count
 abbrev pub judge_settings : ℕ → Fields
 judge_settings count = record (usual 2 5) { count = count }
-
--- the letter of a verdict
-abbrev pub letter : Verdict → List ℕ
-letter Waiting = codes "W"
-letter Restrain = codes "R"
-letter Outside = codes "O"
-letter Trip = codes "T"
 
 -- the line of a set: its number, a comma, and the letters of its phases
 abbrev pub line_of : ℕ → List Verdict → List ℕ

@@ -1,44 +1,12 @@
 -- The lines of a report.
-use Rattle.std.specs.Prelude.{ℕ, ◌+◌, Bool, true, false, List, [], ◌∷◌, ◌++◌, map, Option, Some, None, codes, decimal}
+use Rattle.std.specs.Prelude.{ℕ, ◌+◌, List, [], ◌∷◌, ◌++◌, map, codes, decimal}
 use Rattle.std.specs.Fmt.{signed_decimal}
 use Rattle.std.specs.List.{flat_map}
-use Rattle.channel_alarm.specs.declared.alarm.Alarm.{Alarm}
-use Rattle.channel_alarm.specs.declared.alarm.Alarm.TheVariants.{Unlocked, Yellow, Silent, Unaligned, Fault}
 use Rattle.line_world.specs.declared.line.Line.{Line}
 use Rattle.line_world.specs.declared.line.Line.TheVariants as line
 use Rattle.line_world.specs.declared.line.Total.{Total}
-use Rattle.bench_cmd.specs.Judge.{letter}
-
--- a field behind a comma, and the rest of its line
-abbrev pub field_and : List ℕ → List ℕ → List ℕ
-field_and field rest = codes "," ++ field ++ rest
-
--- fields, each behind a comma, and the end of their line
-abbrev pub fields_text : List (List ℕ) → List ℕ
-fields_text [] = codes "\n"
-fields_text (field ∷ fields) = field_and field (fields_text fields)
-
--- a line of a kind with some fields
-abbrev pub row : List ℕ → List (List ℕ) → List ℕ
-row kind fields = kind ++ fields_text fields
-
--- a bound, or the sign for none
-abbrev pub bound_word : Option ℕ → List ℕ
-bound_word None = codes "-"
-bound_word (Some bound) = decimal bound
-
--- the name of an alarm
-abbrev pub alarm_name : Alarm → List ℕ
-alarm_name Unlocked = codes "Unlocked"
-alarm_name Yellow = codes "Yellow"
-alarm_name Silent = codes "Silent"
-alarm_name Unaligned = codes "Unaligned"
-alarm_name Fault = codes "Fault"
-
--- whether an alarm turned on or off
-abbrev pub turn_word : Bool → List ℕ
-turn_word true = codes "on"
-turn_word false = codes "off"
+use Rattle.text_lines.specs.Lines.{row}
+use Rattle.text_lines.specs.Words.{alarm_name, bound_word, letter, turn_word}
 
 -- a line of a report: an exchange in force, a set judged, an alarm that turned
 abbrev pub line_text : Line → List ℕ

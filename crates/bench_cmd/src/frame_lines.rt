@@ -1,24 +1,25 @@
 //! The lines of `frames`.
 
-ghost use Rattle.std.specs.Prelude.{◌≡◌, ◌≤◌, ◌+◌, ◌++◌, ℕ, Some, length, decimal, OnOk};
+ghost use Rattle.std.specs.Prelude.{◌≡◌, ◌≤◌, ◌+◌, ◌++◌, ◌∷◌, [], ℕ, Some, length, decimal, OnOk};
 ghost use Rattle.std.specs.List.{flat_map};
 ghost use Rattle.std.specs.Option.{option_to_list};
 ghost use Rattle.ld_base.specs.Piece.{bytes_of};
 ghost use Rattle.payload_map.specs.Pieces.{piece_of};
-ghost use Rattle.bench_cmd.specs.FrameLines.{echo_words, end_line, fault_number, fault_words, frame_line, heading_words, hex_words, lock_line, lost_line, message_line, phases_words, refused_line, whole_bytes};
+ghost use Rattle.text_lines.specs.Lines.{field_and, fields_and, row};
+ghost use Rattle.bench_cmd.specs.FrameLines.{echo_fields, end_line, fault_fields, fault_number, frame_line, heading_fields, hex_words, lock_line, lost_line, message_line, refused_line, whole_bytes};
 
-use crate::text_line::TextLine;
 use bit_sync::Got;
 use c3794_frame::FrameFault;
-use ld_base::{Echo, Message, NoMemory, Phases, Piece};
+use ld_base::{Echo, Message, NoMemory, Piece};
 use relay_message::{Hunted, MessageFault};
+use text_lines::TextLine;
 
 /// Appends the line of a lock that was made with so many bits.
 pub(crate) fn write_lock(text: &mut Vec<u8>, at: u64) -> Result<(), NoMemory>
     requires { at ≤ 1000000001000 }
     ensures { OnOk result (text.new.items ≡ text.old.items ++ lock_line (whole_bytes at)) }
 {
-    write_counted(text, b"lock,", whole_bytes(at), b"\n")
+    write_counted(text, b"lock", whole_bytes(at))
 }
 
 /// Appends the line of a lock that was lost with so many bits.
@@ -26,18 +27,18 @@ pub(crate) fn write_lost(text: &mut Vec<u8>, at: u64) -> Result<(), NoMemory>
     requires { at ≤ 1000000001000 }
     ensures { OnOk result (text.new.items ≡ text.old.items ++ lost_line (whole_bytes at)) }
 {
-    write_counted(text, b"lost,", whole_bytes(at), b"\n")
+    write_counted(text, b"lost", whole_bytes(at))
 }
 
 /// Appends the last line.
 pub(crate) fn write_end(text: &mut Vec<u8>, bits: u64, locked: bool) -> Result<(), NoMemory>
     ensures { OnOk result (text.new.items ≡ text.old.items ++ end_line bits locked) }
 {
-    if locked {
-        write_counted(text, b"end,", bits, b",locked\n")
-    } else {
-        write_counted(text, b"end,", bits, b",hunting\n")
-    }
+    let mut line = TextLine::new();
+    line.put(if locked { b",locked\n" } else { b",hunting\n" });
+    line.put_field(bits);
+    line.put(b"end");
+    line.append_to(text)
 }
 
 /// So many bits, and the rest of their last byte.
@@ -63,47 +64,46 @@ pub(crate) fn write_got(
     match got {
         Got::Good(frame) => {
             put_payload(&mut line, piece);
-            line.put(if frame.yellow() { b",1," } else { b",0," });
-            line.put_number(end);
-            line.put(b"frame,");
+            line.put(if frame.yellow() { b",1" } else { b",0" });
+            line.put_field(end);
+            line.put(b"frame");
         }
         Got::Bad(fault) => {
             put_fault(&mut line, fault);
-            line.put(b",");
-            line.put_number(end);
-            line.put(b"bad,");
+            line.put_field(end);
+            line.put(b"bad");
         }
     }
     line.append_to(text)
 }
 
-// Puts a piece of payload in lower-case hexadecimal in front.
+// Puts a piece of payload in lower-case hexadecimal in front, behind a comma.
 fn put_payload(line: &mut TextLine, piece: &Piece)
     requires { length line.old ≤ 120 }
-    ensures payload { line.new ≡ hex_words (bytes_of piece.now) ++ line.old }
-    ensures few { length line.new ≤ length line.old + 24 }
+    ensures payload { line.new ≡ field_and (hex_words (bytes_of piece.now)) line.old }
+    ensures few { length line.new ≤ length line.old + 25 }
 {
     match piece {
-        Piece::Bytes(bytes) => line.put_hex(bytes),
-        Piece::Gap => {}
+        Piece::Bytes(bytes) => line.put_hex_field(bytes),
+        Piece::Gap => line.put_word(b""),
     }
 }
 
-// Puts the words for a fault of a frame in front.
+// Puts the fields for a fault of a frame in front.
 fn put_fault(line: &mut TextLine, fault: &FrameFault)
     requires { length line.old ≤ 120 }
-    ensures fault { line.new ≡ fault_words fault.now ++ line.old }
-    ensures few { length line.new ≤ length line.old + 26 }
+    ensures fault { line.new ≡ fields_and (fault_fields fault.now) line.old }
+    ensures few { length line.new ≤ length line.old + 27 }
 {
     match fault {
-        FrameFault::Header => line.put(b"header"),
+        FrameFault::Header => line.put(b",header"),
         FrameFault::Pair(at) => {
-            line.put_number(u64::from(*at));
-            line.put(b"pair,");
+            line.put_field(u64::from(*at));
+            line.put(b",pair");
         }
         FrameFault::Count(count) => {
-            line.put_number(u64::from(*count));
-            line.put(b"count,");
+            line.put_field(u64::from(*count));
+            line.put(b",count");
         }
     }
 }
@@ -127,7 +127,7 @@ fn write_message(text: &mut Vec<u8>, end: u64, message: &Message) -> Result<(), 
 {
     let mut line = TextLine::new();
     line.put(b"\n");
-    put_phases(&mut line, message.phases);
+    line.put_phases(&message.phases);
     put_echo(&mut line, message.echo);
     put_heading(
         &mut line,
@@ -136,56 +136,36 @@ fn write_message(text: &mut Vec<u8>, end: u64, message: &Message) -> Result<(), 
         message.number,
         message.sent,
     );
-    line.put(b",");
-    line.put_number(end);
-    line.put(b"message,");
+    line.put_field(end);
+    line.put(b"message");
     line.append_to(text)
 }
 
 // Puts the stations of a message, the number of its sample, and its send stamp in front.
 fn put_heading(line: &mut TextLine, from: u8, to: u8, number: u32, sent: u64)
     requires { length line.old ≤ 120 }
-    ensures heading { line.new ≡ heading_words from to number sent ++ line.old }
-    ensures few { length line.new ≤ length line.old + 83 }
+    ensures heading { line.new ≡ fields_and (heading_fields from to number sent) line.old }
+    ensures few { length line.new ≤ length line.old + 84 }
 {
-    line.put_number(sent);
-    line.put(b",");
-    line.put_number(u64::from(number));
-    line.put(b",");
-    line.put_number(u64::from(to));
-    line.put(b",");
-    line.put_number(u64::from(from));
+    line.put_field(sent);
+    line.put_field(u64::from(number));
+    line.put_field(u64::from(to));
+    line.put_field(u64::from(from));
 }
 
-// Puts the stamps of an echo in front, between commas.
+// Puts the stamps of an echo in front.
 fn put_echo(line: &mut TextLine, echo: Option<Echo>)
     requires { length line.old ≤ 120 }
-    ensures echo { line.new ≡ echo_words echo ++ line.old }
-    ensures few { length line.new ≤ length line.old + 43 }
+    ensures echo { line.new ≡ fields_and (echo_fields echo) line.old }
+    ensures few { length line.new ≤ length line.old + 42 }
 {
     match echo {
-        None => line.put(b",-,-,"),
+        None => line.put(b",-,-"),
         Some(echo) => {
-            line.put(b",");
-            line.put_number(echo.came);
-            line.put(b",");
-            line.put_number(echo.sent);
-            line.put(b",");
+            line.put_field(echo.came);
+            line.put_field(echo.sent);
         }
     }
-}
-
-// Puts the values of a sample in front.
-fn put_phases(line: &mut TextLine, phases: Phases)
-    requires { length line.old ≤ 120 }
-    ensures phases { line.new ≡ phases_words phases ++ line.old }
-    ensures few { length line.new ≤ length line.old + 65 }
-{
-    line.put_signed(i64::from(phases.c));
-    line.put(b",");
-    line.put_signed(i64::from(phases.b));
-    line.put(b",");
-    line.put_signed(i64::from(phases.a));
 }
 
 // Appends the line of a place at which a message was refused.
@@ -194,10 +174,9 @@ fn write_refused(text: &mut Vec<u8>, end: u64, fault: MessageFault) -> Result<()
 {
     let mut line = TextLine::new();
     line.put(b"\n");
-    line.put_number(fault_number(fault));
-    line.put(b",");
-    line.put_number(end);
-    line.put(b"refused,");
+    line.put_field(fault_number(fault));
+    line.put_field(end);
+    line.put(b"refused");
     line.append_to(text)
 }
 
@@ -213,14 +192,14 @@ fn fault_number(fault: MessageFault) -> u64
     }
 }
 
-// Appends the line of a number between some words.
-fn write_counted(text: &mut Vec<u8>, name: &[u8], count: u64, behind: &[u8]) -> Result<(), NoMemory>
-    requires { (length name.now ≤ 20) × (length behind.now ≤ 20) }
-    ensures { OnOk result (text.new.items ≡ text.old.items ++ name.now ++ decimal count ++ behind.now) }
+// Appends the line of a kind with one number.
+fn write_counted(text: &mut Vec<u8>, kind: &[u8], count: u64) -> Result<(), NoMemory>
+    requires { length kind.now ≤ 20 }
+    ensures { OnOk result (text.new.items ≡ text.old.items ++ row kind.now (decimal count ∷ [])) }
 {
     let mut line = TextLine::new();
-    line.put(behind);
-    line.put_number(count);
-    line.put(name);
+    line.put(b"\n");
+    line.put_field(count);
+    line.put(kind);
     line.append_to(text)
 }

@@ -2,7 +2,7 @@
 
 ghost use Rattle.std.specs.Prelude.{◌≡◌, ◌≤◌, ◌+◌, ◌++◌, ◌∷◌, [], None, Some, true, false, length, IfOk, MatchOption, MatchResult, OnOk};
 ghost use Rattle.csv.specs.Records.{fields_of};
-ghost use Rattle.bench_cmd.specs.Judge.{are_values_at, is_in_range, judge_rows, judge_settings, letter, line_of, phases_at, row_fault, set_of, set_of_numbers};
+ghost use Rattle.bench_cmd.specs.Judge.{are_values_at, is_in_range, judge_rows, judge_settings, line_of, phases_at, row_fault, set_of, set_of_numbers};
 ghost use Rattle.row_reader.specs.Rows.{rows_of};
 ghost use Rattle.bench_cmd.specs.Outcomes.{IsOutcome};
 
@@ -12,6 +12,7 @@ use itoa::write_digits;
 use ld_base::{Fields, NoMemory, Phases, Reason, SampleSet, Settings};
 use row_reader::{Fault, Rows, numbers_of};
 use std::alloc::Global;
+use text_lines::letter;
 use trip_logic::{Trip, Verdict};
 
 /// The fields of a row: the number of the set, and three phases of each terminal.
@@ -134,16 +135,4 @@ fn write_line(text: &mut Vec<u8>, number: u32, verdicts: &[Verdict; 3]) -> Resul
     let start = write_digits(u64::from(number), &mut line, MOST_DIGITS);
     text.extend_from_slice(&line[start..])?;
     Ok(())
-}
-
-/// The letter of a verdict.
-pub(crate) fn letter(verdict: Verdict) -> u8
-    ensures { letter verdict ≡ result ∷ [] }
-{
-    match verdict {
-        Verdict::Waiting => b'W',
-        Verdict::Restrain => b'R',
-        Verdict::Outside => b'O',
-        Verdict::Trip => b'T',
-    }
 }

@@ -19,7 +19,6 @@ mod reports;
 mod runs;
 mod script_wires;
 mod status;
-mod text_line;
 mod words;
 
 pub use ends::{ReadSource, WriteSink};
