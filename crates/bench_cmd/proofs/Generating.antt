@@ -12,12 +12,12 @@ use Rattle.scenario_generator.specs.Rows.{remark_line, scenario_text}
 use Rattle.pingpong.specs.declared.journal.Entry.{Entry}
 use Rattle.ld_base.specs.declared.fields.Fields.{Fields}
 use Rattle.ld_base.specs.Faults.{last_count}
-use Rattle.line_world.specs.Crossings.{Forged}
-use Rattle.line_world.specs.Occasions.{stations}
+use Rattle.line_journal.specs.Crossings.{Forged}
+use Rattle.line_journal.specs.Stations.{stations}
 use Rattle.line_world.specs.Run.{Run}
 use Rattle.relay_core.specs.StationLog.{StationLog}
-use Rattle.line_world.specs.Totals.{TotalOf}
-use Rattle.line_world.specs.declared.line.Total.{Total}
+use Rattle.line_journal.specs.Totals.{TotalOf}
+use Rattle.line_journal.specs.declared.line.Total.{Total}
 use Rattle.relay_core.specs.declared.call.Call.{Call}
 use Rattle.bench_cmd.specs.GeneratorText.{generated_text, run_sums, sums, sums_line, sums_of}
 use Rattle.bench_cmd.specs.ReportText.{bench_text, report_of, report_or, totals_of}

@@ -10,7 +10,7 @@ use Rattle.pingpong.specs.declared.journal.Entry.{Entry}
 use Rattle.row_reader.specs.Rows.{rows_of}
 use Rattle.row_reader.specs.declared.fault.Fault.{Fault}
 use Rattle.waveform_reader.specs.Scenario.{Setup, scenario_of}
-use Rattle.line_world.specs.Occasions.{Way, ways}
+use Rattle.line_journal.specs.Stations.{Way, ways}
 use Rattle.line_world.specs.Passes.{Counted, Known, Tell, Told, counted, counted_after, counted_with, failures, known, known_of, raised}
 use Rattle.line_world.specs.Run.{Directed, Run, lines_of}
 use Rattle.line_world.specs.Worlds.{Grows, World}

@@ -5,8 +5,9 @@ use Rattle.row_reader.specs.Rows.{Row, rows_of}
 use Rattle.row_reader.specs.declared.fault.Fault.{Fault}
 use Rattle.waveform_reader.specs.Scenario.{Setup, scenario_of}
 use Rattle.waveform_reader.specs.Sound.{IsSetup}
-use Rattle.line_world.specs.Crossings.{Forged}
-use Rattle.line_world.specs.Journals.{AreFirst, ArePair}
+use Rattle.line_journal.specs.Crossings.{Forged}
+use Rattle.line_world.specs.Journals.{AreFirst}
+use Rattle.line_journal.specs.Stations.{ArePair}
 use Rattle.line_world.specs.Occasions.{Moment, moments}
 use Rattle.line_world.specs.Run.{Run, run_through}
 use Rattle.true_time.specs.TrueTime.{KeepsTrueTime}

@@ -6,10 +6,10 @@ use Rattle.row_reader.specs.Rows.{rows_of}
 use Rattle.row_reader.specs.declared.fault.Fault.{Fault}
 use Rattle.waveform_reader.specs.Scenario.{Setup, scenario_of}
 use Rattle.scenario_generator.specs.Rows.{scenario_text}
-use Rattle.line_world.specs.Crossings.{Forged}
-use Rattle.line_world.specs.Occasions.{stations}
+use Rattle.line_journal.specs.Crossings.{Forged}
+use Rattle.line_journal.specs.Stations.{stations}
 use Rattle.line_world.specs.Run.{Run}
-use Rattle.line_world.specs.declared.line.Total.{Total}
+use Rattle.line_journal.specs.declared.line.Total.{Total}
 use Rattle.text_lines.specs.Lines.{row}
 use Rattle.bench_cmd.specs.ReportText.{totals_of}
 

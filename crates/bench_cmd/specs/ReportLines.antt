@@ -2,9 +2,9 @@
 use Rattle.std.specs.Prelude.{ℕ, ◌+◌, List, [], ◌∷◌, ◌++◌, map, codes, decimal}
 use Rattle.std.specs.Fmt.{signed_decimal}
 use Rattle.std.specs.List.{flat_map}
-use Rattle.line_world.specs.declared.line.Line.{Line}
-use Rattle.line_world.specs.declared.line.Line.TheVariants as line
-use Rattle.line_world.specs.declared.line.Total.{Total}
+use Rattle.line_journal.specs.declared.line.Line.{Line}
+use Rattle.line_journal.specs.declared.line.Line.TheVariants as line
+use Rattle.line_journal.specs.declared.line.Total.{Total}
 use Rattle.text_lines.specs.Lines.{row}
 use Rattle.text_lines.specs.Words.{alarm_name, bound_word, letter, turn_word}
 

@@ -6,14 +6,14 @@ use Rattle.pingpong.specs.declared.journal.Entry.{Entry}
 use Rattle.row_reader.specs.Rows.{rows_of}
 use Rattle.row_reader.specs.declared.fault.Fault.{Fault}
 use Rattle.waveform_reader.specs.Scenario.{Setup, scenario_of}
-use Rattle.line_world.specs.Crossings.{Forged}
-use Rattle.line_world.specs.Occasions.{stations}
-use Rattle.line_world.specs.Report.{Lines}
+use Rattle.line_journal.specs.Crossings.{Forged}
+use Rattle.line_journal.specs.Stations.{stations}
+use Rattle.line_journal.specs.Report.{Lines}
 use Rattle.line_world.specs.Run.{Run}
 use Rattle.relay_core.specs.StationLog.{StationLog}
-use Rattle.line_world.specs.Totals.{TotalOf}
-use Rattle.line_world.specs.declared.line.Line.{Line}
-use Rattle.line_world.specs.declared.line.Total.{Total}
+use Rattle.line_journal.specs.Totals.{TotalOf}
+use Rattle.line_journal.specs.declared.line.Line.{Line}
+use Rattle.line_journal.specs.declared.line.Total.{Total}
 use Rattle.bench_cmd.specs.ReportLines.{last_lines, line_text, totals_from}
 
 -- the text of a report

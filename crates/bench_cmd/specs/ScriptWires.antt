@@ -2,7 +2,7 @@
 use Rattle.std.specs.Prelude.{List, map}
 use Rattle.waveform_reader.specs.Scenario.{Setup}
 use Rattle.line_world.specs.Run.{Directed, lines_of}
-use Rattle.line_world.specs.Wires.{Scripted}
+use Rattle.script_wire.specs.Wires.{Scripted}
 
 -- the wire of a line, none of whose calls has failed
 abbrev pub wire_of : Directed → Scripted

@@ -5,8 +5,8 @@ use Rattle.pingpong.specs.declared.journal.Entry.{Entry}
 use Rattle.row_reader.specs.Rows.{rows_of}
 use Rattle.waveform_reader.specs.Scenario.{Setup, scenario_of}
 use Rattle.relay_core.specs.Accepted.{Accepted}
-use Rattle.line_world.specs.Crossings.{Forged, Starts}
-use Rattle.line_world.specs.Journals.{ArePair}
+use Rattle.line_journal.specs.Crossings.{Forged, Starts}
+use Rattle.line_journal.specs.Stations.{ArePair}
 use Rattle.line_world.specs.Run.{Run}
 use Rattle.relay_core.specs.StationLog.{StationLog}
 use Rattle.true_time.specs.TrueTime.{KeepsTrueTime}

@@ -4,7 +4,7 @@ ghost use Rattle.std.specs.Prelude.{◌≡◌, ◌≤◌, ◌++◌, ◌∷◌, L
 ghost use Rattle.bench_cmd.specs.ReportText.{report_of, totals_of};
 ghost use Rattle.bench_cmd.specs.TrueRuns.{KeepsCalm};
 ghost use Rattle.calm_channel.specs.Calm.{IsCalm};
-ghost use Rattle.line_world.specs.Occasions.{stations as stations_of, ways};
+ghost use Rattle.line_journal.specs.Stations.{stations as stations_of, ways};
 ghost use Rattle.line_world.specs.Passes.{counted, counted_after};
 ghost use Rattle.line_world.specs.Run.{Run, lines_of};
 ghost use Rattle.line_world.specs.Worlds.{FollowsScript, Grows, HasEnded, IsOver, IsWorld};

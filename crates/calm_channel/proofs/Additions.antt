@@ -21,9 +21,9 @@ use Rattle.relay_core.specs.declared.receipt.Receipt.{Receipt}
 use Rattle.relay_core.proofs.Calls.{Slots-push, now-push}
 use Rattle.relay_core.proofs.Lists.{All-flat_map}
 use Rattle.relay_core.proofs.Standing.{Offers-push}
-use Rattle.line_world.specs.Crossings.{Start, Starts}
+use Rattle.line_journal.specs.Crossings.{Start, Starts}
 use Rattle.relay_core.specs.StationLog.{StationLog, calls_by, stamp_at}
-use Rattle.line_world.proofs.Entries.{StationLog-push}
+use Rattle.line_journal.proofs.Entries.{StationLog-push}
 use Rattle.calm_channel.proofs.Clocked.{stamped}
 use Rattle.calm_channel.proofs.Logs.{IsNoSlot, log-more, slots-same, starts-more, starts-same}
 

@@ -29,8 +29,9 @@ use Rattle.sample_store.specs.Along.{along_from}
 use Rattle.sample_store.proofs.Alongs.{along-push}
 use Rattle.waveform_reader.specs.Scenario.{Setup}
 use Rattle.waveform_reader.specs.Sound.{IsSetup}
-use Rattle.line_world.specs.Crossings.{Start, Starts}
-use Rattle.line_world.specs.Journals.{AreFirst, ArePair, IsEntry}
+use Rattle.line_journal.specs.Crossings.{Start, Starts}
+use Rattle.line_world.specs.Journals.{AreFirst, IsEntry}
+use Rattle.line_journal.specs.Stations.{ArePair}
 use Rattle.line_world.specs.Occasions.{Moment}
 use Rattle.line_world.specs.Occasions.Occasion.{arrival, departure, slot}
 use Rattle.line_world.specs.Run.{State, after, outcome_by, run_through}

@@ -9,8 +9,9 @@ use Rattle.relay_core.specs.Accepted.{Accepted}
 use Rattle.relay_core.specs.Sent.{Sent}
 use Rattle.waveform_reader.specs.Scenario.{Setup}
 use Rattle.waveform_reader.specs.Sound.{IsSetup}
-use Rattle.line_world.specs.Crossings.{Starts}
-use Rattle.line_world.specs.Journals.{AreFirst, ArePair}
+use Rattle.line_journal.specs.Crossings.{Starts}
+use Rattle.line_world.specs.Journals.{AreFirst}
+use Rattle.line_journal.specs.Stations.{ArePair}
 use Rattle.line_world.specs.Occasions.{Moment, at_tick, moments, moments_at}
 use Rattle.line_world.specs.Run.{State, run_through}
 use Rattle.relay_core.specs.StationLog.{StationLog}

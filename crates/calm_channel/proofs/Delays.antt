@@ -8,7 +8,7 @@ use Rattle.ld_base.specs.declared.rule.Act.TheVariants as act
 use Rattle.ld_base.specs.declared.rule.Rule.{Rule}
 use Rattle.waveform_reader.specs.Scenario.{Setup}
 use Rattle.waveform_reader.specs.Sound.{IsAct, IsRule, IsSetup}
-use Rattle.line_world.specs.Wires.{rules_of}
+use Rattle.script_wire.specs.Wires.{rules_of}
 use Rattle.calm_channel.specs.Calm.{delay_of_line}
 
 abbrev IsDelay : ℕ → Type 0

@@ -6,12 +6,13 @@ use Rattle.relay_core.specs.Accepted.{InForceWith}
 use Rattle.relay_core.specs.declared.call.Call.{Call}
 use Rattle.waveform_reader.specs.Scenario.{Setup}
 use Rattle.waveform_reader.specs.Sound.{IsSetup}
-use Rattle.line_world.specs.Journals.{AreFirst, ArePair}
+use Rattle.line_world.specs.Journals.{AreFirst}
+use Rattle.line_journal.specs.Stations.{ArePair}
 use Rattle.line_world.specs.Occasions.{Moment}
-use Rattle.line_world.specs.Report.{station_of}
+use Rattle.line_journal.specs.Report.{station_of}
 use Rattle.relay_core.specs.StationLog.{StationLog, calls_by}
 use Rattle.line_world.specs.World.{stamp_of}
-use Rattle.line_world.proofs.Entries.{StationLog-push}
+use Rattle.line_journal.proofs.Entries.{StationLog-push}
 use Rattle.calm_channel.specs.Aligned.{AllowsClosely, AllowsExchanges, InForceFrom, aligned_tick, first_aligned_tick}
 use Rattle.calm_channel.specs.Coming.{AcceptedAre}
 use Rattle.calm_channel.proofs.Numbers.{quick, spacing_range}

@@ -22,7 +22,8 @@ use Rattle.relay_core.specs.Sent.{Slots}
 use Rattle.waveform_reader.specs.Scenario.{Setup}
 use Rattle.waveform_reader.specs.Shapes.{value_at}
 use Rattle.waveform_reader.specs.Sound.{ArePhases, IsSetup, IsStation, IsValue}
-use Rattle.line_world.specs.Journals.{AreFirst, ArePair, IsEntry, Names}
+use Rattle.line_world.specs.Journals.{AreFirst, IsEntry}
+use Rattle.line_journal.specs.Stations.{ArePair, Names}
 use Rattle.line_world.specs.Occasions.{Moment, Occasion}
 use Rattle.line_world.specs.Occasions.Occasion.{arrival, departure, sampling, slot}
 use Rattle.line_world.specs.Run.{State, after, outcome_by, run_through, start}

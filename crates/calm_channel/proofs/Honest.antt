@@ -24,15 +24,16 @@ use Rattle.sample_store.proofs.Alongs.{along-push}
 use Rattle.waveform_reader.specs.Scenario.{Setup}
 use Rattle.waveform_reader.specs.Shapes.{value_at}
 use Rattle.waveform_reader.specs.Sound.{IsSetup}
-use Rattle.line_world.specs.Crossings.{Forged, Start, Starts, accepted_with, arrivals_of, arrivals_with, are_same_phases, is_same, is_same_echo, slot_time}
-use Rattle.line_world.specs.Journals.{AreFirst, ArePair, IsEntry}
+use Rattle.line_journal.specs.Crossings.{Forged, Start, Starts, accepted_with, arrivals_of, arrivals_with, are_same_phases, is_same, is_same_echo, slot_time}
+use Rattle.line_world.specs.Journals.{AreFirst, IsEntry}
+use Rattle.line_journal.specs.Stations.{ArePair}
 use Rattle.line_world.specs.Occasions.{Moment, Occasion, moments}
 use Rattle.line_world.specs.Occasions.Occasion.{arrival, departure, sampling, slot}
 use Rattle.line_world.specs.Run.{State, outcome_by, run_through}
 use Rattle.relay_core.specs.StationLog.{StationLog, calls_by, stamp_at}
 use Rattle.line_world.specs.World.{Outcome, entry_of, frames_at, happens, number_of, slot_with}
 use Rattle.line_world.specs.World.Outcome.{fails, gives, nothing}
-use Rattle.line_world.specs.declared.crossing.Arrival.{Arrival}
+use Rattle.line_journal.specs.declared.crossing.Arrival.{Arrival}
 use Rattle.line_world.proofs.Moments.{IsSoFar}
 use Rattle.calm_channel.specs.Coming.{AcceptedAre, Come, asked, has_come, receipt_of}
 use Rattle.calm_channel.proofs.Events.{run-so_far}

@@ -18,8 +18,9 @@ use Rattle.relay_core.specs.declared.receipt.Receipt.{Receipt}
 use Rattle.relay_core.proofs.Accepting.{last_of-push}
 use Rattle.waveform_reader.specs.Scenario.{Setup}
 use Rattle.waveform_reader.specs.Sound.{IsSetup}
-use Rattle.line_world.specs.Crossings.{Start, Starts}
-use Rattle.line_world.specs.Journals.{AreFirst, ArePair}
+use Rattle.line_journal.specs.Crossings.{Start, Starts}
+use Rattle.line_world.specs.Journals.{AreFirst}
+use Rattle.line_journal.specs.Stations.{ArePair}
 use Rattle.line_world.specs.Occasions.{Moment, moments}
 use Rattle.line_world.specs.Occasions.Occasion.{slot}
 use Rattle.relay_core.specs.StationLog.{StationLog}

@@ -24,13 +24,14 @@ use Rattle.relay_core.proofs.Calls.{Line-push, Slots-push}
 use Rattle.sample_store.specs.Along.{along_from}
 use Rattle.waveform_reader.specs.Scenario.{Setup}
 use Rattle.waveform_reader.specs.Sound.{IsSetup}
-use Rattle.line_world.specs.Crossings.{Start, Starts}
-use Rattle.line_world.specs.Journals.{AreFirst, ArePair}
-use Rattle.line_world.specs.Occasions.{Moment, Occasion, Way}
+use Rattle.line_journal.specs.Crossings.{Start, Starts}
+use Rattle.line_world.specs.Journals.{AreFirst}
+use Rattle.line_journal.specs.Stations.{ArePair, Way}
+use Rattle.line_world.specs.Occasions.{Moment, Occasion}
 use Rattle.line_world.specs.Occasions.Occasion.{arrival, departure, sampling, slot}
 use Rattle.line_world.specs.Run.{Directed, State, accepted, after, asked as left_by, given, goes, lines_after, lines_of, loaded, newest_frame, outcome_by, run_through, script_on, start, with_script}
 use Rattle.relay_core.specs.StationLog.{StationLog, calls_by, stamp_at}
-use Rattle.line_world.specs.Wires.{rules_of}
+use Rattle.script_wire.specs.Wires.{rules_of}
 use Rattle.line_world.specs.World.{Outcome, arrived, departed, entry_of}
 use Rattle.line_world.specs.World.Outcome.{nothing, gives}
 use Rattle.calm_channel.specs.Calm.{IsCalm, IsSteady, delay_of_line}

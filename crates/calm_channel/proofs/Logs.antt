@@ -22,7 +22,7 @@ use Rattle.relay_core.proofs.Slots.{begun_in-more}
 use Rattle.sample_store.proofs.Alongs.{along-push}
 use Rattle.waveform_reader.specs.Scenario.{Setup}
 use Rattle.waveform_reader.specs.Shapes.{value_at}
-use Rattle.line_world.specs.Crossings.{Starts, begun_with}
+use Rattle.line_journal.specs.Crossings.{Starts, begun_with}
 use Rattle.line_world.specs.Occasions.{Occasion}
 use Rattle.line_world.specs.Occasions.Occasion.{arrival, departure, sampling, slot}
 use Rattle.relay_core.specs.StationLog.{StationLog, calls_by, stamp_at}

@@ -5,8 +5,8 @@ use Rattle.std.specs.Prelude.{◌==◌, nat_le, filter}
 use Rattle.std.specs.List.{flat_map}
 use Rattle.std.proofs.lemmas.Bool.Decides.{nat_tests}
 use Rattle.ld_base.specs.declared.fields.Fields.{Fields}
-use Rattle.line_world.specs.Journals.{ArePair}
-use Rattle.line_world.specs.Occasions.{Moment, Occasion, Way, at_tick, moments, moments_at, occasions}
+use Rattle.line_journal.specs.Stations.{ArePair, Way}
+use Rattle.line_world.specs.Occasions.{Moment, Occasion, at_tick, moments, moments_at, occasions}
 use Rattle.line_world.specs.Occasions.Occasion.{arrival, departure, sampling, slot}
 
 -- a moment of an occasion

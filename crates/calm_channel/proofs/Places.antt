@@ -13,7 +13,7 @@ use Rattle.waveform_reader.specs.Scenario.{Setup}
 use Rattle.waveform_reader.specs.Shapes.{value_at}
 use Rattle.line_world.specs.Occasions.{Moment, Occasion, moments}
 use Rattle.line_world.specs.Occasions.Occasion.{arrival, departure, sampling, slot}
-use Rattle.line_world.specs.Report.{station_of}
+use Rattle.line_journal.specs.Report.{station_of}
 use Rattle.line_world.specs.Run.{outcome_by, run_through}
 use Rattle.relay_core.specs.StationLog.{calls_of}
 use Rattle.line_world.specs.World.{Outcome, entry_of, frames_at, happens, number_of, slot_with}

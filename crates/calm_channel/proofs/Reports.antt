@@ -21,10 +21,10 @@ use Rattle.relay_core.specs.declared.call.Call.{Call}
 use Rattle.relay_core.specs.declared.answers.Change.{Change}
 use Rattle.relay_core.proofs.Lists.{All-flat_map}
 use Rattle.sample_store.specs.Along.{along, along_from}
-use Rattle.line_world.specs.Report.{Lines, alarm_line, brings_exchange, crossing_in_force, decisions, est_line, estimates, lines_of, set_line, station_of}
+use Rattle.line_journal.specs.Report.{Lines, alarm_line, brings_exchange, crossing_in_force, decisions, est_line, estimates, lines_of, set_line, station_of}
 use Rattle.relay_core.specs.StationLog.{StationLog, calls_by, stamp_at}
-use Rattle.line_world.specs.declared.line.Line.{Line}
-use Rattle.line_world.proofs.Entries.{StationLog-push}
+use Rattle.line_journal.specs.declared.line.Line.{Line}
+use Rattle.line_journal.proofs.Entries.{StationLog-push}
 use Rattle.calm_channel.specs.Aligned.{AlignedFrom, InForceFrom, unaligned}
 use Rattle.calm_channel.proofs.Places.{handed}
 

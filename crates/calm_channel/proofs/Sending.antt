@@ -17,7 +17,7 @@ use Rattle.sample_store.specs.declared.ring.Numbered.{Numbered}
 use Rattle.relay_core.specs.Sent.{begins, begun_in, can_begin, is_free, number_behind}
 use Rattle.relay_core.proofs.Lists.{All-last}
 use Rattle.relay_core.proofs.Slots.{begun_in-more}
-use Rattle.line_world.specs.Crossings.{Start}
+use Rattle.line_journal.specs.Crossings.{Start}
 use Rattle.calm_channel.proofs.Lasts.{AreInOrder}
 
 -- a sample of this number

@@ -25,8 +25,9 @@ use Rattle.relay_core.specs.Sent.{Slots, begins, echo_of, message_of, ready}
 use Rattle.waveform_reader.specs.Scenario.{Setup}
 use Rattle.waveform_reader.specs.Shapes.{value_at}
 use Rattle.waveform_reader.specs.Sound.{IsSetup}
-use Rattle.line_world.specs.Crossings.{Start, Starts}
-use Rattle.line_world.specs.Journals.{AreFirst, ArePair}
+use Rattle.line_journal.specs.Crossings.{Start, Starts}
+use Rattle.line_world.specs.Journals.{AreFirst}
+use Rattle.line_journal.specs.Stations.{ArePair}
 use Rattle.line_world.specs.Occasions.{Moment, Occasion, moments}
 use Rattle.line_world.specs.Occasions.Occasion.{arrival, departure, sampling, slot}
 use Rattle.line_world.specs.Run.{outcome_by, run_through}

@@ -6,8 +6,8 @@ use Rattle.std.proofs.lemmas.Bool.{eqb-false, eqb-true}
 use Rattle.std.proofs.lemmas.List.{map-append}
 use Rattle.std.proofs.lemmas.List.Sums.{fold-append, sum_by-append, sum_by-cons}
 use Rattle.ld_base.specs.declared.fields.Fields.{Fields}
-use Rattle.line_world.specs.Journals.{ArePair}
-use Rattle.line_world.specs.Occasions.{Moment, Occasion, Way, arrivals, at_tick, moments, moments_at, samplings, slot_of, stations}
+use Rattle.line_journal.specs.Stations.{ArePair, Way, stations}
+use Rattle.line_world.specs.Occasions.{Moment, Occasion, arrivals, at_tick, moments, moments_at, samplings, slot_of}
 use Rattle.line_world.specs.Occasions.Occasion.{arrival, departure, sampling, slot}
 use Rattle.calm_channel.specs.Coming.{asked, asks}
 use Rattle.calm_channel.proofs.Pace.{each_pair, peers_in, stations_in, ways_in}

@@ -8,7 +8,7 @@ use Rattle.std.proofs.lemmas.List.Elements.{All-cons, All-nil}
 use Rattle.ld_base.specs.Message.{Contents}
 use Rattle.payload_map.specs.Sent.{Slot, carried, whole}
 use Rattle.relay_message.specs.MessageOf.{spelled}
-use Rattle.line_world.specs.Crossings.{Start}
+use Rattle.line_journal.specs.Crossings.{Start}
 
 -- a message that begins in slot n
 abbrev pub started_at : ℕ → Contents → Start

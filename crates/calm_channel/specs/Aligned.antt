@@ -6,10 +6,10 @@ use Rattle.channel_alarm.specs.declared.alarm.Alarm.TheVariants.{Unaligned}
 use Rattle.pingpong.specs.declared.journal.Entry.{Entry}
 use Rattle.relay_core.specs.Accepted.{InForceWith}
 use Rattle.waveform_reader.specs.Scenario.{Setup}
-use Rattle.line_world.specs.Report.{Lines, station_of}
+use Rattle.line_journal.specs.Report.{Lines, station_of}
 use Rattle.relay_core.specs.StationLog.{StationLog}
-use Rattle.line_world.specs.declared.line.Line.{Line}
-use Rattle.line_world.specs.declared.line.Line.TheVariants as line
+use Rattle.line_journal.specs.declared.line.Line.{Line}
+use Rattle.line_journal.specs.declared.line.Line.TheVariants as line
 use Rattle.calm_channel.specs.Calm.{delay_of_line, transit}
 
 -- at each entry of a station from a tick on, an exchange with a peer is in force

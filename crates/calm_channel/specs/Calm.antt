@@ -8,7 +8,7 @@ use Rattle.waveform_reader.specs.Draft.{is_delay}
 use Rattle.waveform_reader.specs.Scenario.{Setup}
 use Rattle.line_world.specs.Occasions.{moments}
 use Rattle.line_world.specs.Run.{State, run_through}
-use Rattle.line_world.specs.Wires.{rules_of}
+use Rattle.script_wire.specs.Wires.{rules_of}
 
 -- a delay that counts from the first tick on
 abbrev pub IsSteady : Rule → Type 0

@@ -6,8 +6,9 @@ use Rattle.relay_core.specs.Line.{Line}
 use Rattle.relay_core.specs.Sent.{Sent}
 use Rattle.relay_core.specs.declared.receipt.Receipt.{Receipt}
 use Rattle.waveform_reader.specs.Scenario.{Setup}
-use Rattle.line_world.specs.Crossings.{Start, Starts}
-use Rattle.line_world.specs.Journals.{AreFirst, ArePair}
+use Rattle.line_journal.specs.Crossings.{Start, Starts}
+use Rattle.line_world.specs.Journals.{AreFirst}
+use Rattle.line_journal.specs.Stations.{ArePair}
 use Rattle.line_world.specs.Occasions.{Moment, Occasion}
 use Rattle.line_world.specs.Occasions.Occasion.{arrival, departure, sampling, slot}
 use Rattle.line_world.specs.Run.{run_through}

@@ -1,8 +1,9 @@
 //! The laws of a calm channel, each the contract of a function that does nothing but name the laws on which it rests.
 
 ghost use Rattle.std.specs.Prelude.{◌≡◌, ℕ, List, false};
-ghost use Rattle.line_world.specs.Crossings.{Forged};
-ghost use Rattle.line_world.specs.Journals.{AreFirst, ArePair};
+ghost use Rattle.line_journal.specs.Crossings.{Forged};
+ghost use Rattle.line_world.specs.Journals.{AreFirst};
+ghost use Rattle.line_journal.specs.Stations.{ArePair};
 ghost use Rattle.line_world.specs.Occasions.{Moment};
 ghost use Rattle.line_world.specs.Run.{Run, run_through};
 ghost use Rattle.line_world.specs.Worlds.{FollowsScript, IsWorld, World};

@@ -10,8 +10,9 @@ use Rattle.std.proofs.lemmas.List.Sums.{AllPass-from_list_all}
 use Rattle.ld_base.specs.Script.{Script}
 use Rattle.ld_base.specs.declared.fields.Fields.{Fields}
 use Rattle.waveform_reader.specs.Scenario.{Setup}
-use Rattle.line_world.specs.Hall.{Hall}
-use Rattle.line_world.specs.Occasions.{Moment, Way, at_tick, ways}
+use Rattle.line_world.specs.Terminals.{Terminals}
+use Rattle.line_world.specs.Occasions.{Moment, at_tick}
+use Rattle.line_journal.specs.Stations.{Way, ways}
 use Rattle.line_world.specs.Occasions.Occasion.{arrival, departure}
 use Rattle.line_world.specs.Passes.{Passes, Told, scene_of, told}
 use Rattle.line_world.specs.Tick.{AreLines, way_of}
@@ -109,7 +110,7 @@ module _ {W : Type 0} (faults : W → ℕ) (script : W → Option Script) where
         ∙ ap (λ (way : Way). flat_map h (take i (ways f) ++ way ∷ [])) way_at
         ∙ flat_map-end h (take i (ways f)) (way_of c)
 
-    module _ (s : Setup) (t : ℕ) (old new : Hall) (d : Cable W) where
+    module _ (s : Setup) (t : ℕ) (old new : Terminals) (d : Cable W) where
       among_all : (these : List Moment)
           → Passes s these (record { journal = old.journal; wires = map (told faults script) front ++ told faults script c ∷ map (told faults script) back })
           (record { journal = new.journal; wires = map (told faults script) front ++ told faults script d ∷ map (told faults script) back })

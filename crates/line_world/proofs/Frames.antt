@@ -9,8 +9,9 @@ use Rattle.ld_base.specs.Script.{Script}
 use Rattle.relay_core.specs.Log.{peers}
 use Rattle.relay_core.specs.declared.answers.Outgoing.{Outgoing}
 use Rattle.waveform_reader.specs.Scenario.{Setup}
-use Rattle.line_world.specs.Hall.{Hall}
-use Rattle.line_world.specs.Occasions.{Moment, Occasion, at_tick, ways}
+use Rattle.line_world.specs.Terminals.{Terminals}
+use Rattle.line_world.specs.Occasions.{Moment, Occasion, at_tick}
+use Rattle.line_journal.specs.Stations.{ways}
 use Rattle.line_world.specs.Occasions.Occasion.{departure}
 use Rattle.line_world.specs.Passes.{Passes, Scene, scene_of}
 use Rattle.line_world.specs.Tick.{AreLines, CutShort, way_of}
@@ -55,9 +56,9 @@ has_frame to frames stations are there = any_mapped frames ∙ ap (λ (stations 
     any_mapped [] = refl
     any_mapped (o ∷ frames) = ap (λ (b : Bool). (o.to == to) || b) (any_mapped frames)
 
-module _ {W : Type 0} (faults : W → ℕ) (script : W → Option Script) (s : Setup) (t sender i : ℕ) (start : Scene) (hall : Hall) (cables : List (Cable W)) (c : Cable W)
+module _ {W : Type 0} (faults : W → ℕ) (script : W → Option Script) (s : Setup) (t sender i : ℕ) (start : Scene) (terminals : Terminals) (cables : List (Cable W)) (c : Cable W)
     (inside : i < length cables) (is : c ≡ get_or cables i c) (lines : AreLines s.settings cables)
-    (so_far : Passes s (flat_map (sent_at t sender) (take i (ways s.settings))) start (scene_of faults script hall cables)) where
+    (so_far : Passes s (flat_map (sent_at t sender) (take i (ways s.settings))) start (scene_of faults script terminals cables)) where
   abbrev front : List Moment
   front = flat_map (sent_at t sender) (take i (ways s.settings))
 
@@ -70,11 +71,11 @@ module _ {W : Type 0} (faults : W → ℕ) (script : W → Option Script) (s : S
       let none = ap (λ (b : Bool). if b then record { time = t; occasion = departure sender c.to } ∷ [] else []) (ne_eqb c.from sender other) in
       with_next faults script s.settings cables i c inside is lines (sent_at t sender) ∙ ap (λ (these : List Moment). front ++ these) none ∙ append-nil front
 
-  pub skipped : c.from ≢ sender → Passes s (flat_map (sent_at t sender) (take (i + 1) (ways s.settings))) start (scene_of faults script hall (set cables i c))
+  pub skipped : c.from ≢ sender → Passes s (flat_map (sent_at t sender) (take (i + 1) (ways s.settings))) start (scene_of faults script terminals (set cables i c))
   skipped other =
       let same = ap (λ (x : Cable W). set cables i x) is ∙ set-get_or cables i c in
-      subst (λ (these : List Moment). Passes s these start (scene_of faults script hall (set cables i c))) (sym (skipped_is other))
-      (subst (λ (all : List (Cable W)). Passes s front start (scene_of faults script hall all)) (sym same) so_far)
+      subst (λ (these : List Moment). Passes s these start (scene_of faults script terminals (set cables i c))) (sym (skipped_is other))
+      (subst (λ (all : List (Cable W)). Passes s front start (scene_of faults script terminals all)) (sym same) so_far)
 
   module _ (own : c.from ≡ sender) where
     here : sent_at t sender (way_of c) ≡ one ∷ []
@@ -92,12 +93,12 @@ module _ {W : Type 0} (faults : W → ℕ) (script : W → Option Script) (s : S
         ∙ ap (λ (these : List Moment). front ++ these ++ behind) here ∙ append_assoc front (one ∷ []) behind
 
     -- its frame goes out
-    pub sent_next : (new : Hall) (d : Cable W) → Passes s (one ∷ []) (scene_of faults script hall (c ∷ [])) (scene_of faults script new (d ∷ []))
+    pub sent_next : (new : Terminals) (d : Cable W) → Passes s (one ∷ []) (scene_of faults script terminals (c ∷ [])) (scene_of faults script new (d ∷ []))
         → Passes s (flat_map (sent_at t sender) (take (i + 1) (ways s.settings))) start (scene_of faults script new (set cables i d))
     sent_next new d passes =
         subst (λ (these : List Moment). Passes s these start (scene_of faults script new (set cables i d))) (sym next_is)
-        (joined s front (one ∷ []) start (scene_of faults script hall cables) (scene_of faults script new (set cables i d)) so_far
-        (departure_at faults script s.settings cables i c inside is lines s t hall new d passes))
+        (joined s front (one ∷ []) start (scene_of faults script terminals cables) (scene_of faults script new (set cables i d)) so_far
+        (departure_at faults script s.settings cables i c inside is lines s t terminals new d passes))
 
     module _ (small : sender ≤ 3) (large : 1 ≤ sender) (there : sender ≤ s.settings.stations) where
       all_is : at_tick t (map (departure sender) (peers s.settings sender)) ≡ front ++ one ∷ flat_map (sent_at t sender) (drop (i + 1) (ways s.settings))
@@ -125,7 +126,7 @@ module _ {W : Type 0} (faults : W → ℕ) (script : W → Option Script) (s : S
       next_long = ap (λ (these : List Moment). length these) next_is ∙ length-append front (one ∷ [])
 
       -- memory is refused for it
-      pub cut_here : (new : Hall) (d : Cable W) → Passes s [] (scene_of faults script hall (c ∷ [])) (scene_of faults script new (d ∷ []))
+      pub cut_here : (new : Terminals) (d : Cable W) → Passes s [] (scene_of faults script terminals (c ∷ [])) (scene_of faults script new (d ∷ []))
           → CutShort s (at_tick t (map (departure sender) (peers s.settings sender))) start (scene_of faults script new (set cables i d))
       cut_here new d passes = record {
         done = front ++ [];
@@ -136,6 +137,6 @@ module _ {W : Type 0} (faults : W → ℕ) (script : W → Option Script) (s : S
         are =
             all_is ∙ ap (λ (these : List Moment). these ++ one ∷ flat_map (sent_at t sender) (drop (i + 1) (ways s.settings))) (sym (append-nil front));
         passes =
-            joined s front [] start (scene_of faults script hall cables) (scene_of faults script new (set cables i d)) so_far
-            (unsent_at faults script s.settings cables i c inside is lines s t hall new d passes);
+            joined s front [] start (scene_of faults script terminals cables) (scene_of faults script new (set cables i d)) so_far
+            (unsent_at faults script s.settings cables i c inside is lines s t terminals new d passes);
       }

@@ -13,13 +13,14 @@ use Rattle.pingpong.specs.declared.journal.What.{What}
 use Rattle.pingpong.specs.declared.journal.What.TheVariants.{Took}
 use Rattle.waveform_reader.specs.Scenario.{Setup}
 use Rattle.waveform_reader.specs.Shapes.{value_at}
-use Rattle.line_world.specs.Occasions.{Moment, Occasion, Way, arrivals, moments, moments_at, occasions, samplings, slot_of, slots, stations, ways}
+use Rattle.line_world.specs.Occasions.{Moment, Occasion, arrivals, moments, moments_at, occasions, samplings, slot_of, slots}
+use Rattle.line_journal.specs.Stations.{Way, stations, ways}
 use Rattle.line_world.specs.Occasions.Occasion.{arrival, sampling}
 use Rattle.line_world.specs.Run.{Directed, State, after, asked, given, goes, run_through, script_on, start, with_script}
 use Rattle.line_world.specs.Tick.{IsSample}
 use Rattle.line_world.specs.World.{Event, Leads, Outcome, arrived, entries_of, entry_of, number_of, sampled}
 use Rattle.line_world.specs.World.Outcome.{nothing, gives, fails}
-use Rattle.line_world.proofs.NextTicks.{none_fails, nothing_due}
+use Rattle.script_wire.proofs.NextTicks.{none_fails, nothing_due}
 use Rattle.line_world.proofs.Passing.{led}
 
 -- a fold over what leaves a value leaves it

@@ -1,36 +1,19 @@
-pub mod FrameBits
-pub mod Acts
-pub mod Queues
-pub mod NextTicks
-pub mod Stationing
-pub mod Slotting
+mod Stationing
+mod Slotting
 pub mod Passing
-pub mod Turning
-pub mod Asking
-pub mod Ways
-pub mod Cabling
+mod Turning
+mod Asking
+mod Ways
+mod Cabling
 pub mod Moments
-pub mod Quiets
+mod Quiets
 pub mod FirstSlots
-pub mod Frames
-pub mod SampleTicks
-pub mod Speaking
-pub mod Sampling
-pub mod Leasts
+mod Frames
+mod SampleTicks
+mod Speaking
+mod Sampling
+mod Leasts
 pub mod Idle
-pub mod Times
-pub mod Stepping
-pub mod Beginnings
-pub mod Ledgers
-pub mod Entries
-pub mod Tallies
-pub mod LineLists
-pub mod Rising
-pub mod InForces
-pub mod Rooms
-pub mod Accounts
-pub mod LedgerWays
-pub mod Departures
-pub mod Receipts
-pub mod Errors
+mod Times
+mod Stepping
 pub mod Firsts

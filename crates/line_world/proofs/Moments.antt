@@ -13,8 +13,9 @@ use Rattle.relay_core.specs.Log.{is_peer, peers}
 use Rattle.waveform_reader.specs.Scenario.{Setup}
 use Rattle.waveform_reader.specs.Shapes.{value_at}
 use Rattle.waveform_reader.specs.Sound.{IsStation}
-use Rattle.line_world.specs.Journals.{AreFirst, ArePair, IsEntry, Names}
-use Rattle.line_world.specs.Occasions.{Moment, Occasion, Way, arrivals, at_tick, moments, moments_at, occasions, samplings, slot_of, slots, stations, ways}
+use Rattle.line_world.specs.Journals.{AreFirst, IsEntry}
+use Rattle.line_journal.specs.Stations.{ArePair, Names, Way, stations, ways}
+use Rattle.line_world.specs.Occasions.{Moment, Occasion, arrivals, at_tick, moments, moments_at, occasions, samplings, slot_of, slots}
 use Rattle.line_world.specs.Occasions.Occasion.{arrival, departure, sampling, slot}
 use Rattle.line_world.specs.World.{Event, Leads, Outcome, entries_of, entry_of, frames_at, happens, journal_with, number_of, slot_with}
 use Rattle.line_world.specs.World.Outcome.{fails, gives, nothing}

@@ -11,7 +11,8 @@ use Rattle.pingpong.specs.declared.journal.What.{What}
 use Rattle.pingpong.specs.declared.journal.What.TheVariants.{Took}
 use Rattle.waveform_reader.specs.Scenario.{Setup}
 use Rattle.waveform_reader.specs.Shapes.{value_at}
-use Rattle.line_world.specs.Occasions.{Occasion, at_tick, stations}
+use Rattle.line_world.specs.Occasions.{Occasion, at_tick}
+use Rattle.line_journal.specs.Stations.{stations}
 use Rattle.line_world.specs.Occasions.Occasion.{sampling}
 use Rattle.line_world.specs.Tick.{IsNextSample, IsSample}
 use Rattle.line_world.specs.World.{Leads, entry_of, number_of}

@@ -11,8 +11,9 @@ use Rattle.pingpong.specs.declared.journal.What.TheVariants.{Took}
 use Rattle.relay_core.specs.Log.{peers}
 use Rattle.waveform_reader.specs.Scenario.{Setup}
 use Rattle.waveform_reader.specs.Shapes.{value_at}
-use Rattle.line_world.specs.Hall.{Hall}
-use Rattle.line_world.specs.Occasions.{Moment, Occasion, arrivals, at_tick, moments_at, samplings, slot_of, stations}
+use Rattle.line_world.specs.Terminals.{Terminals}
+use Rattle.line_world.specs.Occasions.{Moment, Occasion, arrivals, at_tick, moments_at, samplings, slot_of}
+use Rattle.line_journal.specs.Stations.{stations}
 use Rattle.line_world.specs.Occasions.Occasion.{departure, sampling, slot}
 use Rattle.line_world.specs.Passes.{Passes, Scene, Told, failures, scene_of}
 use Rattle.line_world.specs.Tick.{CutShort}
@@ -42,10 +43,10 @@ cut_within s before these behind whole x y z is passes cut =
       passes = joined s before cut.done x y z passes cut.passes;
     }
 
-module _ {W : Type 0} (faults : W → ℕ) (script : W → Option Script) (s : Setup) (t i station : ℕ) (these : List ℕ) (start : Scene) (hall mid new : Hall) (cables after : List (Cable W))
+module _ {W : Type 0} (faults : W → ℕ) (script : W → Option Script) (s : Setup) (t i station : ℕ) (these : List ℕ) (start : Scene) (terminals mid new : Terminals) (cables after : List (Cable W))
     (inside : i < length these) (is : station ≡ get_or these i station)
-    (so_far : Passes s (at_tick t (flat_map (slot_of s.settings) (take i these))) start (scene_of faults script hall cables))
-    (entry : mid.journal ≡ hall.journal ++ entry_of s t (slot_with station (frames_at s hall.journal t station)) ∷ []) where
+    (so_far : Passes s (at_tick t (flat_map (slot_of s.settings) (take i these))) start (scene_of faults script terminals cables))
+    (entry : mid.journal ≡ terminals.journal ++ entry_of s t (slot_with station (frames_at s terminals.journal t station)) ∷ []) where
   abbrev front : List Moment
   front = at_tick t (flat_map (slot_of s.settings) (take i these))
 
@@ -59,14 +60,14 @@ module _ {W : Type 0} (faults : W → ℕ) (script : W → Option Script) (s : S
   behind = at_tick t (flat_map (slot_of s.settings) (drop (i + 1) these))
 
   -- a station has its slot
-  slot_passes : Passes s (one ∷ []) (scene_of faults script hall cables) (scene_of faults script mid cables)
+  slot_passes : Passes s (one ∷ []) (scene_of faults script terminals cables) (scene_of faults script mid cables)
   slot_passes =
-      unasked s one hall.journal mid.journal (entry_of s t (slot_with station (frames_at s hall.journal t station)) ∷ []) (scene_of faults script hall cables).wires
+      unasked s one terminals.journal mid.journal (entry_of s t (slot_with station (frames_at s terminals.journal t station)) ∷ []) (scene_of faults script terminals cables).wires
       (record { events = record { moment = one; outcome = nothing } ∷ []; moments = refl; journal = entry })
       entry (λ from to. refl) (λ lines. ap (λ (journal : List Entry). record { journal = journal; lines = lines }) (sym entry))
 
   to_slot : Passes s (front ++ one ∷ []) start (scene_of faults script mid cables)
-  to_slot = joined s front (one ∷ []) start (scene_of faults script hall cables) (scene_of faults script mid cables) so_far slot_passes
+  to_slot = joined s front (one ∷ []) start (scene_of faults script terminals cables) (scene_of faults script mid cables) so_far slot_passes
 
   next_is : at_tick t (flat_map (slot_of s.settings) (take (i + 1) these)) ≡ front ++ one ∷ [] ++ frames
   next_is =

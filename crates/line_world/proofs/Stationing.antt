@@ -16,8 +16,8 @@ use Rattle.relay_core.specs.declared.call.Call.{Call}
 use Rattle.relay_core.specs.StandsFor.{IsPeerOf, Kept, StandsFor}
 use Rattle.waveform_reader.specs.Scenario.{Setup}
 use Rattle.waveform_reader.specs.Sound.{IsStation}
-use Rattle.line_world.specs.Hall.{AreTwo}
-use Rattle.line_world.specs.Occasions.{stations}
+use Rattle.line_journal.specs.Stations.{ArePair}
+use Rattle.line_journal.specs.Stations.{stations}
 use Rattle.line_world.specs.Stationed.{AreTerminals, IsTerminal}
 use Rattle.relay_core.specs.StationLog.{StationLog, calls_by, calls_of}
 
@@ -63,7 +63,7 @@ terminal-at f journal terminals station place t kept there at is =
     let whose : suc place ≡ station = omega (arith, there.0) in
     subst (λ (me : ℕ). IsTerminal f journal me t) whose (kept.each place t found)
 
--- what a station's terminal tells of every log that it stands for, it tells of the station's, by the settings and the stamp that a book has
+-- what a station's terminal tells of every log that it stands for, it tells of the station's, by the settings and the stamp that an account has
 pub told-of : (P : Fields → ℕ → List Call → ℕ → Type 0) (f g : Fields) (journal : List Entry) (station stamp at : ℕ) (t : Kept) → IsTerminal f journal station t
     → g ≡ f → stamp ≡ at → ((calls : List Call) → StandsFor t calls → P t.settings t.me calls stamp) → P g station (StationLog station journal) at
 told-of P f g journal station stamp at t is same stamped told =
@@ -74,7 +74,7 @@ told-of P f g journal station stamp at t is same stamped told =
 
 -- of two stations, the one's terminal has the other as its peer
 pub peer-at : (s : Setup) (journal : List Entry) (terminals : List Kept) (one other place : ℕ) (t : Kept) → AreTerminals s.settings journal terminals
-    → AreTwo s one other → place ≡ one - 1 → t ≡ get_or terminals place t → IsPeerOf t other
+    → ArePair s.settings.stations one other → place ≡ one - 1 → t ≡ get_or terminals place t → IsPeerOf t other
 peer-at s journal terminals one other place t kept two at is =
     let terminal = terminal-at s.settings journal terminals one place t kept two.one_there at is in
     record {

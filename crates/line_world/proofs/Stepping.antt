@@ -19,7 +19,7 @@ use Rattle.line_world.specs.Run.{Directed, Run, State, after, lines_of, run_thro
 use Rattle.line_world.specs.Tick.{AreLines, CutShort, IsNextSample, IsSample, TellsNext}
 use Rattle.line_world.specs.World.{Leads}
 use Rattle.line_world.specs.Worlds.{AreIdle, FollowsScript, Grows, Halted, HasDone, HasEnded, IsDue, IsDueByScript, IsIdle, IsNextDue, IsOver, IsWorld, Went, World, scene}
-use Rattle.line_world.specs.Hall.{Hall}
+use Rattle.line_world.specs.Terminals.{Terminals}
 use Rattle.line_world.specs.Inside.{IsKept, world_of}
 use Rattle.line_world.specs.declared.cable.Cable.{Cable}
 use Rattle.line_world.specs.declared.world.World.TheInside.{Inside}
@@ -291,9 +291,9 @@ on_err : {T E : Type 0} (result : Result T E) (P : Type 0) → is_err result ≡
 on_err (Ok x) P e h = absurd (cc)
 on_err (Err x) P e h = h
 
--- a tick that was carried out with a hall that has room and with the cables as they are lent and come back
+-- a tick that was carried out with terminals that have room and with the cables as they are lent and come back
 module _ {W : Type 0} (faults : W → ℕ) (script : W → Option Script) (s : Setup) (tick : ℕ) (journal : List Entry) (cables : Vec (Cable W) Global)
-    (room new : Hall) (at : ℕ) (lent back : List (Cable W)) (same : room.setup ≡ s) (now : at ≡ tick) (kept : room.journal ≡ journal)
+    (room new : Terminals) (at : ℕ) (lent back : List (Cable W)) (same : room.setup ≡ s) (now : at ≡ tick) (kept : room.journal ≡ journal)
     (as_they_are : lent ≡ cables.items) (long : length back ≡ cables.len) where
   abbrev Between : (Setup → List Moment → Scene → Scene → Type 0) → Type 0
   Between P = P room.setup (moments_at room.setup.settings at) (scene_of faults script room lent) (scene_of faults script new back)
@@ -333,7 +333,7 @@ over_its_wires faults script next_tick inside = record {
 -- a world, by what it keeps, and the least tick that is due
 module _ {W : Type 0} (faults : W → ℕ) (script : W → Option Script) (next_tick : W → ℕ → ℕ) (inside : Inside W) (kept : IsKept faults script next_tick inside)
     (running : inside.halted ≡ false) (settings : Fields) (scenario : Setup) (tick : ℕ) (cables : List (Cable W)) (are_settings : settings ≡ scenario.settings)
-    (are_scenario : scenario ≡ inside.hall.setup) (are_cables : cables ≡ inside.cables.items)
+    (are_scenario : scenario ≡ inside.terminals.setup) (are_cables : cables ≡ inside.cables.items)
     (found : IsNextDue settings.stations inside.next inside.samples (map (λ cable. next_tick cable.wire inside.next) cables) tick) where
   abbrev old : World
   old = world_of faults script next_tick inside
@@ -364,19 +364,19 @@ module _ {W : Type 0} (faults : W → ℕ) (script : W → Option Script) (next_
       next_by_script faults script next_tick inside.next inside.cables.items
       (subst (λ (all : List (Cable W)). All (TellsNext script next_tick inside.next) all) are_cables tells)
 
-  pub ends : inside.hall.setup.end ≤ tick → HasEnded old
+  pub ends : inside.terminals.setup.end ≤ tick → HasEnded old
   ends h = record {
     idle = idle_to old.setup.end h;
     running = running;
     leads = idle_on old running old.setup.end kept.world.within (idle_to old.setup.end h) kept.world;
   }
 
-  pub runs_to_the_end : inside.hall.setup.end ≤ tick → TellNext → FollowsScript old → old.journal ≡ Run old.setup
+  pub runs_to_the_end : inside.terminals.setup.end ≤ tick → TellNext → FollowsScript old → old.journal ≡ Run old.setup
   runs_to_the_end h tells follows =
       ap (λ (state : State). state.journal)
       (sym (idle_by_script old running old.setup.end kept.world.within (idle_to old.setup.end h) (quiet_to old.setup.end h tells) follows))
 
-  pub goes_on : {P : Type 0} → tick < inside.hall.setup.end → HasEnded old → P
+  pub goes_on : {P : Type 0} → tick < inside.terminals.setup.end → HasEnded old → P
   goes_on early ended =
       absurd (due_is_not_idle old tick (is_due old inside.samples tick (kept.samples running) due) (ended.idle tick due.later early))
 

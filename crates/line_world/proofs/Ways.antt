@@ -6,7 +6,8 @@ use Rattle.std.proofs.lemmas.Bool.{and_parts, eqb-false, le-leb, leb-true, not-t
 use Rattle.ld_base.specs.declared.fields.Fields.{Fields}
 use Rattle.relay_core.specs.Log.{peers}
 use Rattle.waveform_reader.specs.Sound.{IsStation}
-use Rattle.line_world.specs.Occasions.{Occasion, Way, ways}
+use Rattle.line_world.specs.Occasions.{Occasion}
+use Rattle.line_journal.specs.Stations.{Way, ways}
 use Rattle.line_world.specs.Occasions.Occasion.{departure}
 
 -- whether a line goes from one station to another

@@ -1,9 +1,10 @@
 -- The occasions of a tick, in their order: lines are asked, samples are taken, and slots come, each with the frames that go out in it.
 -- (This project's own.)
-use Rattle.std.specs.Prelude.{ℕ, zero, suc, ◌%◌, ◌==◌, nat_le, if◌then◌else◌, List, [], ◌∷◌, ◌++◌, map, filter}
+use Rattle.std.specs.Prelude.{ℕ, zero, suc, ◌%◌, ◌==◌, if◌then◌else◌, List, [], ◌∷◌, ◌++◌, map}
 use Rattle.std.specs.List.{flat_map}
 use Rattle.ld_base.specs.declared.fields.Fields.{Fields}
 use Rattle.relay_core.specs.Log.{peers}
+use Rattle.line_journal.specs.Stations.{stations, ways}
 
 -- a receiver asks the line from a sender; a station may take a sample; a station has its slot; a frame of the slot goes to a receiver
 pub data Occasion : Type 0 where
@@ -16,23 +17,6 @@ pub data Occasion : Type 0 where
 pub record Moment : Type 0 where
   pub time : ℕ
   pub occasion : Occasion
-
--- the stations of a line
-abbrev pub stations : Fields → List ℕ
-stations f = filter (λ station. nat_le station f.stations) (1 ∷ 2 ∷ 3 ∷ [])
-
--- a directed line from one station to another
-pub record Way : Type 0 where
-  pub from : ℕ
-  pub to : ℕ
-
--- the one from a sender to a receiver
-abbrev pub way_between : ℕ × ℕ → Way
-way_between line = record { from = line.0; to = line.1 }
-
--- the directed lines, by receiver and then by sender
-abbrev pub ways : Fields → List Way
-ways f = flat_map (λ receiver. map (λ sender. record { from = sender; to = receiver }) (peers f receiver)) (stations f)
 
 -- each line is asked
 abbrev pub arrivals : Fields → List Occasion

@@ -6,8 +6,9 @@ use Rattle.pingpong.specs.declared.journal.Entry.{Entry}
 use Rattle.pingpong.specs.declared.journal.What.{What}
 use Rattle.pingpong.specs.declared.journal.What.TheVariants.{SendFailed, TakeFailed}
 use Rattle.waveform_reader.specs.Scenario.{Setup}
-use Rattle.line_world.specs.Hall.{Hall}
-use Rattle.line_world.specs.Occasions.{Moment, Way}
+use Rattle.line_world.specs.Terminals.{Terminals}
+use Rattle.line_world.specs.Occasions.{Moment}
+use Rattle.line_journal.specs.Stations.{Way}
 use Rattle.line_world.specs.Run.{Directed, after}
 use Rattle.line_world.specs.World.{Leads}
 use Rattle.line_world.specs.declared.cable.Cable.{Cable}
@@ -28,8 +29,8 @@ pub record Scene : Type 0 where
 abbrev pub told : {W : Type 0} → (W → ℕ) → (W → Option Script) → Cable W → Told
 told faults script cable = record { from = cable.from; to = cable.to; faults = faults cable.wire; script = script cable.wire }
 
-abbrev pub scene_of : {W : Type 0} → (W → ℕ) → (W → Option Script) → Hall → List (Cable W) → Scene
-scene_of faults script hall cables = record { journal = hall.journal; wires = map (told faults script) cables }
+abbrev pub scene_of : {W : Type 0} → (W → ℕ) → (W → Option Script) → Terminals → List (Cable W) → Scene
+scene_of faults script terminals cables = record { journal = terminals.journal; wires = map (told faults script) cables }
 
 -- whether it was a failed call on the wire from one station to another
 abbrev pub is_failure : ℕ → ℕ → What → Bool

@@ -6,10 +6,11 @@ use Rattle.ld_base.specs.declared.rule.Rule.{Rule}
 use Rattle.pingpong.specs.declared.journal.Entry.{Entry}
 use Rattle.relay_core.specs.Sent.{Sent}
 use Rattle.waveform_reader.specs.Scenario.{Setup}
-use Rattle.line_world.specs.Occasions.{Moment, Occasion, moments, ways}
+use Rattle.line_world.specs.Occasions.{Moment, Occasion, moments}
+use Rattle.line_journal.specs.Stations.{ways}
 use Rattle.line_world.specs.Occasions.Occasion.{arrival, departure, sampling, slot}
 use Rattle.relay_core.specs.StationLog.{StationLog}
-use Rattle.line_world.specs.Wires.{rules_of}
+use Rattle.script_wire.specs.Wires.{rules_of}
 use Rattle.line_world.specs.World.{Outcome, entries_of}
 use Rattle.line_world.specs.World.Outcome.{nothing, gives, fails}
 

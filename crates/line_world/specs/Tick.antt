@@ -3,7 +3,8 @@ use Rattle.std.specs.Prelude.{◌≡◌, ℕ, ◌-◌, ◌<◌, ◌≤◌, List,
 use Rattle.ld_base.specs.Script.{QuietBy, Script}
 use Rattle.ld_base.specs.declared.fields.Fields.{Fields}
 use Rattle.waveform_reader.specs.Scenario.{Setup}
-use Rattle.line_world.specs.Occasions.{Moment, Way, ways}
+use Rattle.line_world.specs.Occasions.{Moment}
+use Rattle.line_journal.specs.Stations.{Way, ways}
 use Rattle.line_world.specs.Occasions.Occasion.{departure}
 use Rattle.line_world.specs.Passes.{Passes, Scene}
 use Rattle.line_world.specs.World.{number_of}

@@ -1,21 +1,14 @@
-//! The lines between the terminals.
+//! Terminals over wires in true time.
 #![tactic(auto)]
 
-mod book;
 mod cable;
-mod crossing;
-mod hall;
+mod clock_phases;
 pub mod laws;
-mod ledger;
-mod line;
-mod now;
 mod sampler;
-mod script_wire;
-mod stations;
+mod terminals;
 mod tick;
 mod world;
 
-pub use line::{Line, Total};
+pub use line_journal::{Line, Total, directed_lines};
 pub use script_wire::ScriptWire;
-pub use stations::directed_lines;
 pub use world::{Stepped, World};

@@ -4,8 +4,8 @@ ghost use Rattle.std.specs.Prelude.{ℕ, ◌<◌, ◌≤◌, All, suc, slice_ind
 ghost use Rattle.pingpong.specs.Clock.{phase as clock_phase};
 ghost use Rattle.line_world.specs.Tick.{IsNextSample};
 
-use crate::stations::station;
 use ld_base::Station;
+use line_journal::station;
 use pingpong::Clock;
 use pingpong::laws::a_clock_keeps_its_drift;
 use waveform_reader::Scenario;

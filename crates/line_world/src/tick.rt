@@ -3,8 +3,9 @@
 ghost use Rattle.std.specs.Prelude.{◌≡◌, ◌+◌, ◌≤◌, ℕ, ◌∷◌, [], All, OnErr, OnOk, Some, find, length, map, option_map, suc, slice_index, true, ◌==◌};
 ghost use Rattle.std.specs.List.{flat_map, list_any};
 ghost use Rattle.c3794_frame.specs.Numbers.{bits_of};
-ghost use Rattle.line_world.specs.Hall.{IsNow};
-ghost use Rattle.line_world.specs.Occasions.{arrivals, at_tick, moments_at, samplings, slot_of, stations};
+ghost use Rattle.line_world.specs.Terminals.{IsNow};
+ghost use Rattle.line_world.specs.Occasions.{arrivals, at_tick, moments_at, samplings, slot_of};
+ghost use Rattle.line_journal.specs.Stations.{stations};
 ghost use Rattle.line_world.specs.Occasions.Occasion.{departure, sampling};
 ghost use Rattle.line_world.specs.Passes.{Passes, scene_of};
 ghost use Rattle.line_world.specs.Run.{newest_frame};
@@ -14,11 +15,10 @@ ghost use Rattle.relay_core.specs.Log.{peers};
 ghost use Rattle.waveform_reader.specs.Sound.{IsStation};
 
 use crate::cable::Cable;
-use crate::hall::Hall;
-use crate::now::Now;
 use crate::sampler::next_sample;
-use crate::stations::stations_of;
+use crate::terminals::Terminals;
 use ld_base::{NoMemory, Station, Wire};
+use line_journal::{Now, stations_of};
 use relay_core::Outgoing;
 
 /// A slot comes every 125 ticks.
@@ -27,132 +27,136 @@ pub(crate) const SLOT_TICKS: u64 = 125;
 /// Carries out a tick: every line is asked, stations take their samples, and at a slot their frames go out. `samples` has for
 /// each station the tick of its next sample. On `NoMemory` what wasn't carried out begins with a frame that goes out.
 pub(crate) fn carry_out<W: Wire>(
-    hall: &mut Hall,
+    terminals: &mut Terminals,
     cables: &mut [Cable<W>],
     now: &Now,
     samples: &mut [u64; 3],
 ) -> Result<(), NoMemory>
-    requires room { 18 ≤ hall.old.room }
-    requires now { IsNow hall.old.setup now.now }
+    requires room { 18 ≤ terminals.old.room }
+    requires now { IsNow terminals.old.setup now.now }
     requires early { now.now.tick ≤ 20000000 }
-    requires lines { AreLines hall.old.setup.settings cables.old }
-    requires samples { (k : ℕ) → suc k ≤ hall.old.setup.settings.stations → IsNextSample hall.old.setup (suc k) now.now.tick (slice_index samples.old k) }
-    ensures setup { hall.new.setup ≡ hall.old.setup }
-    ensures lines { AreLines hall.old.setup.settings cables.new }
-    ensures next { OnOk result ((k : ℕ) → suc k ≤ hall.old.setup.settings.stations → IsNextSample hall.old.setup (suc k) (suc now.now.tick) (slice_index samples.new k)) }
-    ensures passes { OnOk result (Passes hall.old.setup (moments_at hall.old.setup.settings now.now.tick)
-        (scene_of W.faults W.script hall.old cables.old) (scene_of W.faults W.script hall.new cables.new)) }
-    ensures cut { OnErr result (CutShort hall.old.setup (moments_at hall.old.setup.settings now.now.tick)
-        (scene_of W.faults W.script hall.old cables.old) (scene_of W.faults W.script hall.new cables.new)) }
+    requires lines { AreLines terminals.old.setup.settings cables.old }
+    requires samples { (k : ℕ) → suc k ≤ terminals.old.setup.settings.stations → IsNextSample terminals.old.setup (suc k) now.now.tick (slice_index samples.old k) }
+    ensures setup { terminals.new.setup ≡ terminals.old.setup }
+    ensures lines { AreLines terminals.old.setup.settings cables.new }
+    ensures next { OnOk result ((k : ℕ) → suc k ≤ terminals.old.setup.settings.stations → IsNextSample terminals.old.setup (suc k) (suc now.now.tick) (slice_index samples.new k)) }
+    ensures passes { OnOk result (Passes terminals.old.setup (moments_at terminals.old.setup.settings now.now.tick)
+        (scene_of W.faults W.script terminals.old cables.old) (scene_of W.faults W.script terminals.new cables.new)) }
+    ensures cut { OnErr result (CutShort terminals.old.setup (moments_at terminals.old.setup.settings now.now.tick)
+        (scene_of W.faults W.script terminals.old cables.old) (scene_of W.faults W.script terminals.new cables.new)) }
 {
-    receive(hall, cables, now);
-    sample(hall, now, samples);
+    receive(terminals, cables, now);
+    sample(terminals, now, samples);
     if now.tick % SLOT_TICKS != 0 {
         return Ok(());
     }
-    speak(hall, cables, now)
+    speak(terminals, cables, now)
 }
 
 // Asks every line.
-fn receive<W: Wire>(hall: &mut Hall, cables: &mut [Cable<W>], now: &Now)
-    requires room { length cables.old ≤ hall.old.room }
-    requires now { IsNow hall.old.setup now.now }
-    requires lines { AreLines hall.old.setup.settings cables.old }
-    ensures setup { hall.new.setup ≡ hall.old.setup }
-    ensures room { hall.old.room ≤ hall.new.room + length cables.old }
-    ensures lines { AreLines hall.old.setup.settings cables.new }
-    ensures passes { Passes hall.old.setup (at_tick now.now.tick (arrivals hall.old.setup.settings))
-        (scene_of W.faults W.script hall.old cables.old) (scene_of W.faults W.script hall.new cables.new) }
+fn receive<W: Wire>(terminals: &mut Terminals, cables: &mut [Cable<W>], now: &Now)
+    requires room { length cables.old ≤ terminals.old.room }
+    requires now { IsNow terminals.old.setup now.now }
+    requires lines { AreLines terminals.old.setup.settings cables.old }
+    ensures setup { terminals.new.setup ≡ terminals.old.setup }
+    ensures room { terminals.old.room ≤ terminals.new.room + length cables.old }
+    ensures lines { AreLines terminals.old.setup.settings cables.new }
+    ensures passes { Passes terminals.old.setup (at_tick now.now.tick (arrivals terminals.old.setup.settings))
+        (scene_of W.faults W.script terminals.old cables.old) (scene_of W.faults W.script terminals.new cables.new) }
 {
     for cable in cables.iter_mut() {
-        cable.receive(hall, now);
+        cable.receive(terminals, now);
     }
 }
 
 // Takes the samples of a tick.
-fn sample(hall: &mut Hall, now: &Now, samples: &mut [u64; 3])
-    requires room { 3 ≤ hall.old.room }
-    requires now { IsNow hall.old.setup now.now }
+fn sample(terminals: &mut Terminals, now: &Now, samples: &mut [u64; 3])
+    requires room { 3 ≤ terminals.old.room }
+    requires now { IsNow terminals.old.setup now.now }
     requires early { now.now.tick ≤ 20000000 }
-    requires samples { (k : ℕ) → suc k ≤ hall.old.setup.settings.stations → IsNextSample hall.old.setup (suc k) now.now.tick (slice_index samples.old k) }
-    ensures setup { hall.new.setup ≡ hall.old.setup }
-    ensures room { hall.old.room ≤ hall.new.room + 3 }
-    ensures next { (k : ℕ) → suc k ≤ hall.old.setup.settings.stations → IsNextSample hall.old.setup (suc k) (suc now.now.tick) (slice_index samples.new k) }
-    ensures leads { Leads hall.old.setup (at_tick now.now.tick (samplings hall.old.setup.settings)) hall.old.journal hall.new.journal }
+    requires samples { (k : ℕ) → suc k ≤ terminals.old.setup.settings.stations → IsNextSample terminals.old.setup (suc k) now.now.tick (slice_index samples.old k) }
+    ensures setup { terminals.new.setup ≡ terminals.old.setup }
+    ensures room { terminals.old.room ≤ terminals.new.room + 3 }
+    ensures next { (k : ℕ) → suc k ≤ terminals.old.setup.settings.stations → IsNextSample terminals.old.setup (suc k) (suc now.now.tick) (slice_index samples.new k) }
+    ensures leads { Leads terminals.old.setup (at_tick now.now.tick (samplings terminals.old.setup.settings)) terminals.old.journal terminals.new.journal }
 {
-    let stations = stations_of(hall.scenario().settings());
+    let stations = stations_of(terminals.scenario().settings());
     for station in stations.iter() {
         let place = usize::from(station.get()) - 1;
-        samples[place] = sample_one(hall, now, *station, samples[place]);
+        samples[place] = sample_one(terminals, now, *station, samples[place]);
     }
 }
 
 // Takes a station's sample where it is due at this tick, and tells the tick of the one that is due after it.
-fn sample_one(hall: &mut Hall, now: &Now, station: Station, next: u64) -> u64
-    requires room { 1 ≤ hall.old.room }
-    requires now { IsNow hall.old.setup now.now }
+fn sample_one(terminals: &mut Terminals, now: &Now, station: Station, next: u64) -> u64
+    requires room { 1 ≤ terminals.old.room }
+    requires now { IsNow terminals.old.setup now.now }
     requires early { now.now.tick ≤ 20000000 }
-    requires there { IsStation hall.old.setup.settings.stations station }
-    requires next { IsNextSample hall.old.setup station now.now.tick next }
-    ensures setup { hall.new.setup ≡ hall.old.setup }
-    ensures room { hall.old.room ≤ hall.new.room + 1 }
-    ensures next { IsNextSample hall.old.setup station (suc now.now.tick) result }
-    ensures leads { Leads hall.old.setup (at_tick now.now.tick (sampling station ∷ [])) hall.old.journal hall.new.journal }
+    requires there { IsStation terminals.old.setup.settings.stations station }
+    requires next { IsNextSample terminals.old.setup station now.now.tick next }
+    ensures setup { terminals.new.setup ≡ terminals.old.setup }
+    ensures room { terminals.old.room ≤ terminals.new.room + 1 }
+    ensures next { IsNextSample terminals.old.setup station (suc now.now.tick) result }
+    ensures leads { Leads terminals.old.setup (at_tick now.now.tick (sampling station ∷ [])) terminals.old.journal terminals.new.journal }
 {
     if next != now.tick {
         return next;
     }
-    hall.sample(now, station);
-    next_sample(hall.scenario(), station, now.tick + 1)
+    terminals.sample(now, station);
+    next_sample(terminals.scenario(), station, now.tick + 1)
 }
 
 // Gives each station its slot, and sends its frames.
-fn speak<W: Wire>(hall: &mut Hall, cables: &mut [Cable<W>], now: &Now) -> Result<(), NoMemory>
-    requires room { 9 ≤ hall.old.room }
-    requires now { IsNow hall.old.setup now.now }
-    requires lines { AreLines hall.old.setup.settings cables.old }
-    ensures setup { hall.new.setup ≡ hall.old.setup }
-    ensures lines { AreLines hall.old.setup.settings cables.new }
-    ensures passes { OnOk result (Passes hall.old.setup (at_tick now.now.tick (flat_map (slot_of hall.old.setup.settings) (stations hall.old.setup.settings)))
-        (scene_of W.faults W.script hall.old cables.old) (scene_of W.faults W.script hall.new cables.new)) }
-    ensures cut { OnErr result (CutShort hall.old.setup (at_tick now.now.tick (flat_map (slot_of hall.old.setup.settings) (stations hall.old.setup.settings)))
-        (scene_of W.faults W.script hall.old cables.old) (scene_of W.faults W.script hall.new cables.new)) }
+fn speak<W: Wire>(
+    terminals: &mut Terminals,
+    cables: &mut [Cable<W>],
+    now: &Now,
+) -> Result<(), NoMemory>
+    requires room { 9 ≤ terminals.old.room }
+    requires now { IsNow terminals.old.setup now.now }
+    requires lines { AreLines terminals.old.setup.settings cables.old }
+    ensures setup { terminals.new.setup ≡ terminals.old.setup }
+    ensures lines { AreLines terminals.old.setup.settings cables.new }
+    ensures passes { OnOk result (Passes terminals.old.setup (at_tick now.now.tick (flat_map (slot_of terminals.old.setup.settings) (stations terminals.old.setup.settings)))
+        (scene_of W.faults W.script terminals.old cables.old) (scene_of W.faults W.script terminals.new cables.new)) }
+    ensures cut { OnErr result (CutShort terminals.old.setup (at_tick now.now.tick (flat_map (slot_of terminals.old.setup.settings) (stations terminals.old.setup.settings)))
+        (scene_of W.faults W.script terminals.old cables.old) (scene_of W.faults W.script terminals.new cables.new)) }
 {
-    let stations = stations_of(hall.scenario().settings());
+    let stations = stations_of(terminals.scenario().settings());
     for station in stations.iter() {
-        let frames = hall.slot(now, *station);
-        send(hall, cables, now, *station, &frames)?;
+        let frames = terminals.slot(now, *station);
+        send(terminals, cables, now, *station, &frames)?;
     }
     Ok(())
 }
 
 // Sends a station's frames on its lines.
 fn send<W: Wire>(
-    hall: &mut Hall,
+    terminals: &mut Terminals,
     cables: &mut [Cable<W>],
     now: &Now,
     sender: Station,
     frames: &[Outgoing],
 ) -> Result<(), NoMemory>
-    requires room { 2 ≤ hall.old.room }
-    requires now { IsNow hall.old.setup now.now }
-    requires lines { AreLines hall.old.setup.settings cables.old }
-    requires there { IsStation hall.old.setup.settings.stations sender }
-    requires peers { map (λ o. o.to) frames.now ≡ peers hall.old.setup.settings sender }
-    requires frames { All (λ o. newest_frame hall.old.setup.settings sender o.to hall.old.journal ≡ bits_of o.bytes) frames.now }
-    ensures setup { hall.new.setup ≡ hall.old.setup }
-    ensures room { OnOk result (hall.old.room ≤ hall.new.room + 2) }
-    ensures lines { AreLines hall.old.setup.settings cables.new }
-    ensures passes { OnOk result (Passes hall.old.setup (at_tick now.now.tick (map (departure sender) (peers hall.old.setup.settings sender)))
-        (scene_of W.faults W.script hall.old cables.old) (scene_of W.faults W.script hall.new cables.new)) }
-    ensures cut { OnErr result (CutShort hall.old.setup (at_tick now.now.tick (map (departure sender) (peers hall.old.setup.settings sender)))
-        (scene_of W.faults W.script hall.old cables.old) (scene_of W.faults W.script hall.new cables.new)) }
+    requires room { 2 ≤ terminals.old.room }
+    requires now { IsNow terminals.old.setup now.now }
+    requires lines { AreLines terminals.old.setup.settings cables.old }
+    requires there { IsStation terminals.old.setup.settings.stations sender }
+    requires peers { map (λ o. o.to) frames.now ≡ peers terminals.old.setup.settings sender }
+    requires frames { All (λ o. newest_frame terminals.old.setup.settings sender o.to terminals.old.journal ≡ bits_of o.bytes) frames.now }
+    ensures setup { terminals.new.setup ≡ terminals.old.setup }
+    ensures room { OnOk result (terminals.old.room ≤ terminals.new.room + 2) }
+    ensures lines { AreLines terminals.old.setup.settings cables.new }
+    ensures passes { OnOk result (Passes terminals.old.setup (at_tick now.now.tick (map (departure sender) (peers terminals.old.setup.settings sender)))
+        (scene_of W.faults W.script terminals.old cables.old) (scene_of W.faults W.script terminals.new cables.new)) }
+    ensures cut { OnErr result (CutShort terminals.old.setup (at_tick now.now.tick (map (departure sender) (peers terminals.old.setup.settings sender)))
+        (scene_of W.faults W.script terminals.old cables.old) (scene_of W.faults W.script terminals.new cables.new)) }
 {
     for cable in cables.iter_mut() {
         if cable.from != sender {
             continue;
         }
-        cable.send(hall, now, frame_to(frames, cable.to))?;
+        cable.send(terminals, now, frame_to(frames, cable.to))?;
     }
     Ok(())
 }

@@ -1,28 +1,27 @@
 //! Terminals over wires in true time.
 
 ghost use Rattle.std.specs.Prelude.{◌≡◌, ℕ, ◌-◌, ◌*◌, ◌%◌, ◌<◌, ◌≤◌, List, [], All, Err, IfOk, Ok, OnErr, OnOk, false, length, map, slice_index, suc, true};
-ghost use Rattle.line_world.specs.Crossings.{Forged};
+ghost use Rattle.line_journal.specs.Crossings.{Forged};
 ghost use Rattle.line_world.specs.Journals.{IsJournalOf};
-ghost use Rattle.line_world.specs.Occasions.{ways};
+ghost use Rattle.line_journal.specs.Stations.{ways};
 ghost use Rattle.line_world.specs.Passes.{Tell};
-ghost use Rattle.line_world.specs.Report.{Lines};
+ghost use Rattle.line_journal.specs.Report.{Lines};
 ghost use Rattle.line_world.specs.Run.{Run, lines_of};
 ghost use Rattle.line_world.specs.Tick.{AreLines, TellsNext};
 ghost use Rattle.line_world.specs.Worlds.{FollowsScript, Grows, Halted, HasEnded, IsDueByScript, IsLeast, IsNextDue, IsOver, IsWorld, Went};
 ghost use Rattle.relay_core.specs.StationLog.{StationLog};
-ghost use Rattle.line_world.specs.Totals.{TotalOf};
+ghost use Rattle.line_journal.specs.Totals.{TotalOf};
 ghost use Rattle.relay_core.specs.StandsFor.{StandsFor};
 ghost use Rattle.waveform_reader.specs.Sound.{IsStation};
 
 use crate::cable::Cable;
-use crate::hall::Hall;
+use crate::clock_phases::now_at;
 use crate::laws::a_world_keeps_a_journal;
-use crate::line::{Line, Total};
-use crate::now::Now;
 use crate::sampler::first_samples;
-use crate::stations::directed_lines;
+use crate::terminals::Terminals;
 use crate::tick::{SLOT_TICKS, carry_out};
 use ld_base::{NoMemory, Settings, Station, Wire};
+use line_journal::{Line, Total, directed_lines};
 use pingpong::Entry;
 use relay_core::Terminal;
 use std::alloc::Global;
@@ -41,7 +40,7 @@ pub enum Stepped {
 /// The terminals of a scenario over wires, in true time: what happened to them is in its journal. (This project's own.)
 #[derive(Drop)]
 pub struct World<W: Wire> {
-    hall: Hall,
+    terminals: Terminals,
     cables: Vec<Cable<W>>,
     // For each station the tick of its next sample.
     samples: [u64; 3],
@@ -77,9 +76,9 @@ impl<W: Wire> World<W> {
     {
         let cables = cables_of(alloc, scenario.settings(), wires)?;
         let samples = first_samples(&scenario);
-        let hall = Hall::new(alloc, scenario)?;
+        let terminals = Terminals::new(alloc, scenario)?;
         Ok(World {
-            hall,
+            terminals,
             cables,
             samples,
             next: 0,
@@ -113,20 +112,27 @@ impl<W: Wire> World<W> {
         }
         let tick = next_due(
             &self.cables,
-            self.hall.scenario().settings(),
+            self.terminals.scenario().settings(),
             &self.samples,
             self.next,
         );
-        if tick >= self.hall.scenario().end() {
+        if tick >= self.terminals.scenario().end() {
             return Ok(Stepped::Ended);
         }
-        if self.hall.make_room().is_err() {
+        if self.terminals.make_room().is_err() {
             self.halted = true;
             return Err(NoMemory);
         }
-        let now = Now::of(self.hall.scenario(), tick);
+        let now = now_at(self.terminals.scenario(), tick);
         self.next = tick;
-        if carry_out(&mut self.hall, &mut self.cables, &now, &mut self.samples).is_err() {
+        if carry_out(
+            &mut self.terminals,
+            &mut self.cables,
+            &now,
+            &mut self.samples,
+        )
+        .is_err()
+        {
             self.halted = true;
             return Err(NoMemory);
         }
@@ -141,16 +147,16 @@ impl<W: Wire> World<W> {
         ensures law { IsJournalOf self.now.setup self.now.journal }
     {
         // The law is one of accepted scenarios.
-        let _ = self.hall.scenario();
+        let _ = self.terminals.scenario();
         a_world_keeps_a_journal();
-        self.hall.journal()
+        self.terminals.journal()
     }
 
     /// The lines of the report of the journal.
     pub fn lines(&self) -> &[Line]
         ensures { result.now ≡ Lines self.now.setup.settings self.now.journal }
     {
-        self.hall.lines()
+        self.terminals.lines()
     }
 
     /// What a station counted, by the journal.
@@ -158,14 +164,14 @@ impl<W: Wire> World<W> {
         requires { IsStation self.now.setup.settings.stations station }
         ensures { result ≡ TotalOf self.now.setup.settings station (StationLog station self.now.journal) }
     {
-        self.hall.total(station)
+        self.terminals.total(station)
     }
 
     /// How many accepted messages don't equal one that began earlier on their line.
     pub fn forged(&self) -> u64
         ensures { result ≡ Forged self.now.setup.settings self.now.journal }
     {
-        self.hall.forged()
+        self.terminals.forged()
     }
 
     /// The terminal of a station. It stands for the log of its station in the journal.
@@ -174,7 +180,7 @@ impl<W: Wire> World<W> {
         ensures settings { (result.now.settings ≡ self.now.setup.settings) × (result.now.me ≡ station) }
         ensures stands { StandsFor result.now (StationLog station self.now.journal) }
     {
-        self.hall.terminal(station)
+        self.terminals.terminal(station)
     }
 }
 

@@ -20,7 +20,7 @@ use Rattle.relay_core.proofs.Accepting.{next_number-push}
 use Rattle.relay_core.proofs.Calls.{Completed-push, added-is}
 use Rattle.sample_store.proofs.Alongs.{along-both, along-push}
 use Rattle.sample_store.specs.Along.{along}
-use Rattle.line_world.specs.Crossings.{accepted_with}
+use Rattle.line_journal.specs.Crossings.{accepted_with}
 use Rattle.relay_core.specs.StationLog.{StationLog, calls_by, stamp_at}
 use Rattle.true_time.specs.Places.{WasAccepted, added_with}
 use Rattle.true_time.proofs.Alongs.{grown}

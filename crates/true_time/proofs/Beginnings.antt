@@ -12,12 +12,12 @@ use Rattle.pingpong.specs.declared.journal.Entry.{Entry}
 use Rattle.relay_message.specs.Messages.{added}
 use Rattle.relay_core.proofs.Calls.{added-is}
 use Rattle.sample_store.specs.Along.{along_from}
-use Rattle.line_world.specs.Crossings.{Arrivals, Beginnings, are_same_phases, beginnings_with, begun_with, is_same, is_same_echo, slot_time}
-use Rattle.line_world.specs.Ledger.{AreRising}
-use Rattle.line_world.specs.declared.crossing.Beginning.{Beginning}
-use Rattle.line_world.proofs.InForces.{find-passes}
-use Rattle.line_world.proofs.LineLists.{Beginnings-push, slot_time-is}
-use Rattle.line_world.proofs.Rising.{Beginnings-rise}
+use Rattle.line_journal.specs.Crossings.{Arrivals, Beginnings, are_same_phases, beginnings_with, begun_with, is_same, is_same_echo, slot_time}
+use Rattle.line_journal.specs.LineHistory.{AreRising}
+use Rattle.line_journal.specs.declared.crossing.Beginning.{Beginning}
+use Rattle.line_journal.proofs.InForces.{find-passes}
+use Rattle.line_journal.proofs.LineLists.{Beginnings-push, slot_time-is}
+use Rattle.line_journal.proofs.Rising.{Beginnings-rise}
 use Rattle.true_time.specs.Places.{Began}
 use Rattle.true_time.proofs.Alongs.{IsGrowing, along-grows, comes-with, contains-later}
 use Rattle.true_time.proofs.Elements.{in-found, in-front, in-mapped, in-turn, maps-in, none-in}

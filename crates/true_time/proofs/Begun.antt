@@ -16,7 +16,7 @@ use Rattle.relay_core.specs.declared.call.Call.{Call}
 use Rattle.relay_core.specs.declared.call.Call.TheVariants as made
 use Rattle.relay_core.specs.Sent.{Begun, Slots, begins, begun_in, can_begin, echo_of, message_of, ready, slot_by}
 use Rattle.relay_core.proofs.Calls.{Slots-push, added-is, added-none}
-use Rattle.line_world.specs.Crossings.{begun_with}
+use Rattle.line_journal.specs.Crossings.{begun_with}
 use Rattle.relay_core.specs.StationLog.{StationLog}
 use Rattle.true_time.proofs.Alongs.{IsGrowing, along-grows, filter_map-grows, then-grows}
 use Rattle.true_time.proofs.Elements.{none-in, one-in}

@@ -23,7 +23,7 @@ use Rattle.relay_core.specs.declared.call.Call.{Call}
 use Rattle.relay_core.specs.declared.call.Call.TheVariants as made
 use Rattle.relay_core.specs.declared.receipt.Receipt.{Receipt}
 use Rattle.waveform_reader.specs.Sound.{IsStation}
-use Rattle.line_world.specs.Journals.{ArePair}
+use Rattle.line_journal.specs.Stations.{ArePair}
 use Rattle.true_time.specs.Places.{PlacedIn, TakenIn, part_of, value_of}
 use Rattle.true_time.proofs.Accepted.{IsFrom, accepted-all}
 use Rattle.true_time.proofs.Additions.{AddedBy, added-by, added-stays, element-in}

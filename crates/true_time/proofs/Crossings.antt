@@ -13,14 +13,14 @@ use Rattle.relay_core.specs.Log.{now}
 use Rattle.relay_core.specs.declared.receipt.Receipt.{Receipt}
 use Rattle.relay_core.proofs.Calls.{added-is}
 use Rattle.sample_store.specs.Along.{along_from}
-use Rattle.line_world.specs.Crossings.{Arrivals, Beginnings, Crossings, accepted_with, crossing_by, is_same, legs_from, legs_of, slot_time}
-use Rattle.line_world.specs.Report.{crossing_in_force}
+use Rattle.line_journal.specs.Crossings.{Arrivals, Beginnings, Crossings, accepted_with, crossing_by, is_same, legs_from, legs_of, slot_time}
+use Rattle.line_journal.specs.Report.{crossing_in_force}
 use Rattle.relay_core.specs.StationLog.{StationLog}
-use Rattle.line_world.specs.declared.crossing.Arrival.{Arrival}
-use Rattle.line_world.specs.declared.crossing.Beginning.{Beginning}
-use Rattle.line_world.specs.declared.crossing.Crossing.{Crossing}
-use Rattle.line_world.specs.declared.crossing.Legs.{Legs}
-use Rattle.line_world.proofs.LineLists.{Crossings-push}
+use Rattle.line_journal.specs.declared.crossing.Arrival.{Arrival}
+use Rattle.line_journal.specs.declared.crossing.Beginning.{Beginning}
+use Rattle.line_journal.specs.declared.crossing.Crossing.{Crossing}
+use Rattle.line_journal.specs.declared.crossing.Legs.{Legs}
+use Rattle.line_journal.proofs.LineLists.{Crossings-push}
 use Rattle.true_time.specs.Estimates.{AreHonest}
 use Rattle.true_time.specs.Places.{Began, WasAccepted}
 use Rattle.true_time.proofs.Accepted.{accepted-once}

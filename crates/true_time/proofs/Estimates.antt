@@ -19,11 +19,11 @@ use Rattle.relay_core.specs.declared.call.Call.{Call}
 use Rattle.relay_core.specs.declared.call.Call.TheVariants as made
 use Rattle.relay_core.specs.Sent.{echo_of}
 use Rattle.relay_core.specs.declared.receipt.Receipt.{Receipt}
-use Rattle.line_world.specs.Crossings.{Crossings}
-use Rattle.line_world.specs.Report.{bound_of, error_of, station_of}
+use Rattle.line_journal.specs.Crossings.{Crossings}
+use Rattle.line_journal.specs.Report.{bound_of, error_of, station_of}
 use Rattle.relay_core.specs.StationLog.{StationLog, calls_of, stamp_at}
-use Rattle.line_world.specs.declared.crossing.Legs.{Legs}
-use Rattle.line_world.proofs.Entries.{StationLog-push}
+use Rattle.line_journal.specs.declared.crossing.Legs.{Legs}
+use Rattle.line_journal.proofs.Entries.{StationLog-push}
 use Rattle.true_time.specs.Estimates.{AreHonest, EstimatesAreBounded, ExchangesAreYoung}
 use Rattle.true_time.specs.Places.{Began, IsAt, WasAccepted}
 use Rattle.true_time.proofs.Accepted.{accepted-at}

@@ -20,11 +20,11 @@ use Rattle.relay_core.specs.declared.receipt.Receipt.{Receipt}
 use Rattle.relay_core.proofs.Calls.{added-is}
 use Rattle.sample_store.specs.Along.{along}
 use Rattle.sample_store.proofs.Alongs.{along-push}
-use Rattle.line_world.specs.Crossings.{Arrivals, Forged, accepted_with, arrivals_of, legs_from, slot_time}
+use Rattle.line_journal.specs.Crossings.{Arrivals, Forged, accepted_with, arrivals_of, legs_from, slot_time}
 use Rattle.relay_core.specs.StationLog.{StationLog, calls_of, stamp_at}
-use Rattle.line_world.specs.declared.crossing.Arrival.{Arrival}
-use Rattle.line_world.specs.declared.crossing.Legs.{Legs}
-use Rattle.line_world.proofs.LineLists.{accepted-silent}
+use Rattle.line_journal.specs.declared.crossing.Arrival.{Arrival}
+use Rattle.line_journal.specs.declared.crossing.Legs.{Legs}
+use Rattle.line_journal.proofs.LineLists.{accepted-silent}
 use Rattle.true_time.specs.Places.{Began, WasAccepted}
 use Rattle.true_time.specs.TrueTime.{AllAreTraced}
 use Rattle.true_time.proofs.Accepted.{accepted-handed}

@@ -8,11 +8,11 @@ use Rattle.pingpong.specs.declared.journal.Entry.{Entry}
 use Rattle.relay_core.specs.Accepted.{Accepted, last_of}
 use Rattle.relay_core.specs.declared.receipt.Receipt.{Receipt}
 use Rattle.sample_store.specs.Along.{along_from}
-use Rattle.line_world.specs.Crossings.{Arrivals, accepted_with, slot_time}
+use Rattle.line_journal.specs.Crossings.{Arrivals, accepted_with, slot_time}
 use Rattle.relay_core.specs.StationLog.{StationLog, calls_by}
-use Rattle.line_world.specs.declared.crossing.Arrival.{Arrival}
-use Rattle.line_world.proofs.Entries.{StationLog-push}
-use Rattle.line_world.proofs.LineLists.{Arrivals-push}
+use Rattle.line_journal.specs.declared.crossing.Arrival.{Arrival}
+use Rattle.line_journal.proofs.Entries.{StationLog-push}
+use Rattle.line_journal.proofs.LineLists.{Arrivals-push}
 use Rattle.true_time.specs.Places.{IsAt, WasAccepted}
 use Rattle.true_time.proofs.Alongs.{grown, take-one, take-past}
 use Rattle.true_time.proofs.Elements.{HasLast, first-in, has-last, last-of_more}

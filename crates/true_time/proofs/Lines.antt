@@ -16,13 +16,13 @@ use Rattle.relay_core.specs.declared.answers.Change.{Change}
 use Rattle.relay_core.specs.declared.answers.Judged.{Judged}
 use Rattle.relay_core.proofs.Calls.{added-is}
 use Rattle.sample_store.specs.Along.{along_from}
-use Rattle.line_world.specs.Journals.{ArePair, Names}
-use Rattle.line_world.specs.Report.{Lines, alarm_line, bound_of, brings_exchange, crossing_in_force, error_of, est_line, estimates, lines_of, set_line, station_of}
+use Rattle.line_journal.specs.Stations.{ArePair, Names}
+use Rattle.line_journal.specs.Report.{Lines, alarm_line, bound_of, brings_exchange, crossing_in_force, error_of, est_line, estimates, lines_of, set_line, station_of}
 use Rattle.relay_core.specs.StationLog.{StationLog, calls_by}
-use Rattle.line_world.specs.declared.crossing.Crossing.{Crossing}
-use Rattle.line_world.specs.declared.line.Line.{Line}
-use Rattle.line_world.specs.declared.line.Line.TheVariants as line
-use Rattle.line_world.proofs.Entries.{Lines-push}
+use Rattle.line_journal.specs.declared.crossing.Crossing.{Crossing}
+use Rattle.line_journal.specs.declared.line.Line.{Line}
+use Rattle.line_journal.specs.declared.line.Line.TheVariants as line
+use Rattle.line_journal.proofs.Entries.{Lines-push}
 use Rattle.true_time.specs.Estimates.{EstimatesAreBounded, IsInForce}
 use Rattle.true_time.specs.Lines.{ErrsWithin, HasBound}
 use Rattle.true_time.specs.Places.{IsAt}

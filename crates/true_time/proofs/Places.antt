@@ -20,9 +20,9 @@ use Rattle.relay_core.specs.declared.call.Call.TheVariants as made
 use Rattle.relay_core.specs.declared.receipt.Receipt.{Receipt}
 use Rattle.relay_core.proofs.Calls.{added-none, now-push}
 use Rattle.sample_store.specs.Along.{along_from}
-use Rattle.line_world.specs.Crossings.{accepted_with}
+use Rattle.line_journal.specs.Crossings.{accepted_with}
 use Rattle.relay_core.specs.StationLog.{StationLog, calls_by, calls_of, stamp_at}
-use Rattle.line_world.proofs.Entries.{StationLog-push}
+use Rattle.line_journal.proofs.Entries.{StationLog-push}
 use Rattle.true_time.specs.Places.{IsAt, WasAccepted, added_with}
 use Rattle.true_time.proofs.Alongs.{IsGrowing, along-grows, comes-with, contains-later, flat_map-grows, take-one, take-past, then-grows}
 

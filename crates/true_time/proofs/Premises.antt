@@ -6,7 +6,8 @@ use Rattle.pingpong.specs.Journal.{IsJournal}
 use Rattle.pingpong.specs.declared.journal.Entry.{Entry}
 use Rattle.waveform_reader.specs.Scenario.{Setup}
 use Rattle.waveform_reader.specs.Sound.{IsSetup, IsStation}
-use Rattle.line_world.specs.Journals.{IsJournalOf, Names}
+use Rattle.line_world.specs.Journals.{IsJournalOf}
+use Rattle.line_journal.specs.Stations.{Names}
 
 pub record Stands (f : Fields) (journal : List Entry) : Type 0 where
   pub drift : f.drift ≤ 200

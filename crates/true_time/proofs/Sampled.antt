@@ -21,7 +21,7 @@ use Rattle.relay_core.specs.declared.call.Call.TheVariants as made
 use Rattle.relay_core.proofs.Calls.{added-none}
 use Rattle.waveform_reader.specs.Sound.{IsStation}
 use Rattle.relay_core.specs.StationLog.{StationLog, calls_of, stamp_at}
-use Rattle.line_world.proofs.Entries.{StationLog-push}
+use Rattle.line_journal.proofs.Entries.{StationLog-push}
 use Rattle.true_time.specs.Places.{Began, IsAt, PlacedIn, TakenIn, WasPlaced, WasTaken, added_with}
 use Rattle.true_time.proofs.Alongs.{IsGrowing, along-grows, take-one, then-grows}
 use Rattle.true_time.proofs.Begun.{began-is}

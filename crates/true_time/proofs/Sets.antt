@@ -16,12 +16,12 @@ use Rattle.relay_core.specs.Log.{now}
 use Rattle.relay_core.specs.declared.call.Call.{Call}
 use Rattle.relay_core.specs.declared.receipt.Receipt.{Receipt}
 use Rattle.waveform_reader.specs.Sound.{IsStation}
-use Rattle.line_world.specs.Crossings.{Crossings}
-use Rattle.line_world.specs.Journals.{ArePair}
-use Rattle.line_world.specs.Report.{crossing_in_force}
+use Rattle.line_journal.specs.Crossings.{Crossings}
+use Rattle.line_journal.specs.Stations.{ArePair}
+use Rattle.line_journal.specs.Report.{crossing_in_force}
 use Rattle.relay_core.specs.StationLog.{StationLog, stamp_at}
-use Rattle.line_world.specs.declared.crossing.Crossing.{Crossing}
-use Rattle.line_world.proofs.InForces.{crossing-found}
+use Rattle.line_journal.specs.declared.crossing.Crossing.{Crossing}
+use Rattle.line_journal.proofs.InForces.{crossing-found}
 use Rattle.true_time.specs.Places.{IsAt, PlacedIn, TakenIn, WasAccepted, WasJudged, part_of}
 use Rattle.true_time.specs.Values.{IsAlignedSet, IsAlignedValue, IsOwnSample, SetsAreAligned}
 use Rattle.true_time.proofs.Ages.{youth}

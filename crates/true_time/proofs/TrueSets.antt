@@ -14,8 +14,8 @@ use Rattle.sample_store.specs.Instants.{AreAligned, AreNear}
 use Rattle.sample_store.proofs.Alone.{IsAligned-Aligned}
 use Rattle.sample_store.proofs.Instances.{AreNear-aligned}
 use Rattle.relay_core.specs.declared.receipt.Receipt.{Receipt}
-use Rattle.line_world.specs.Journals.{ArePair}
-use Rattle.line_world.specs.declared.crossing.Legs.{Legs}
+use Rattle.line_journal.specs.Stations.{ArePair}
+use Rattle.line_journal.specs.declared.crossing.Legs.{Legs}
 use Rattle.true_time.specs.Estimates.{AreHonest, EstimatesAreBounded, IsTraced}
 use Rattle.true_time.specs.Places.{Began, IsAt, WasAccepted, WasTaken, part_of, value_of}
 use Rattle.true_time.specs.TrueTime.{AllAreTraced}

@@ -7,11 +7,11 @@ use Rattle.pingpong.specs.Journal.{passage}
 use Rattle.pingpong.specs.declared.journal.Entry.{Entry}
 use Rattle.relay_core.specs.Accepted.{Accepted, last_of}
 use Rattle.relay_core.specs.declared.receipt.Receipt.{Receipt}
-use Rattle.line_world.specs.Journals.{ArePair}
-use Rattle.line_world.specs.Report.{bound_of, crossing_in_force, error_of, station_of}
+use Rattle.line_journal.specs.Stations.{ArePair}
+use Rattle.line_journal.specs.Report.{bound_of, crossing_in_force, error_of, station_of}
 use Rattle.relay_core.specs.StationLog.{StationLog}
-use Rattle.line_world.specs.declared.crossing.Crossing.{Crossing}
-use Rattle.line_world.specs.declared.crossing.Legs.{Legs}
+use Rattle.line_journal.specs.declared.crossing.Crossing.{Crossing}
+use Rattle.line_journal.specs.declared.crossing.Legs.{Legs}
 use Rattle.true_time.specs.Places.{Began, IsAt, WasAccepted}
 
 -- the exchange in force with a peer at an entry, whatever station the entry is of

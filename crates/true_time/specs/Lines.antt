@@ -1,7 +1,7 @@
 -- The lines of a report that tell an estimate. (This project's own.)
 use Rattle.std.specs.Prelude.{◌≤◌, Some, None}
-use Rattle.line_world.specs.declared.line.Line.{Line}
-use Rattle.line_world.specs.declared.line.Line.TheVariants as line
+use Rattle.line_journal.specs.declared.line.Line.{Line}
+use Rattle.line_journal.specs.declared.line.Line.TheVariants as line
 
 -- where a line has a bound, its error is within it
 abbrev pub ErrsWithin : Line → Type 0

@@ -13,7 +13,7 @@ use Rattle.sample_store.specs.declared.ring.Numbered.{Numbered}
 use Rattle.relay_core.specs.Decided.{JudgedSets, Offers}
 use Rattle.relay_core.specs.declared.call.Call.{Call}
 use Rattle.relay_core.specs.declared.receipt.Receipt.{Receipt}
-use Rattle.line_world.specs.Crossings.{accepted_with, begun_with}
+use Rattle.line_journal.specs.Crossings.{accepted_with, begun_with}
 use Rattle.relay_core.specs.StationLog.{StationLog, calls_by}
 
 -- an entry stands at a place of a journal

@@ -6,7 +6,7 @@ use Rattle.ld_base.specs.declared.message.Echo.{Echo}
 use Rattle.pingpong.specs.declared.journal.Entry.{Entry}
 use Rattle.relay_core.specs.Accepted.{Accepted, last_of}
 use Rattle.relay_core.specs.declared.receipt.Receipt.{Receipt}
-use Rattle.line_world.specs.Journals.{ArePair}
+use Rattle.line_journal.specs.Stations.{ArePair}
 use Rattle.relay_core.specs.StationLog.{StationLog, stamp_at}
 use Rattle.true_time.specs.Places.{Began, WasAccepted}
 

@@ -2,11 +2,11 @@
 use Rattle.std.specs.Prelude.{◌≡◌, ℕ, List, All, Some}
 use Rattle.ld_base.specs.declared.fields.Fields.{Fields}
 use Rattle.pingpong.specs.declared.journal.Entry.{Entry}
-use Rattle.line_world.specs.Crossings.{Forged}
-use Rattle.line_world.specs.Journals.{ArePair}
-use Rattle.line_world.specs.Report.{Lines}
-use Rattle.line_world.specs.declared.crossing.Crossing.{Crossing}
-use Rattle.line_world.specs.declared.crossing.Legs.{Legs}
+use Rattle.line_journal.specs.Crossings.{Forged}
+use Rattle.line_journal.specs.Stations.{ArePair}
+use Rattle.line_journal.specs.Report.{Lines}
+use Rattle.line_journal.specs.declared.crossing.Crossing.{Crossing}
+use Rattle.line_journal.specs.declared.crossing.Legs.{Legs}
 use Rattle.true_time.specs.Estimates.{EstimatesAreBounded, ExchangesAreYoung, IsInForce}
 use Rattle.true_time.specs.Lines.{ErrsWithin, HasBound}
 use Rattle.true_time.specs.Receipts.{EchoesAreReal}

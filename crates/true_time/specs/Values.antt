@@ -7,9 +7,9 @@ use Rattle.pingpong.specs.Exchange.{estimate2}
 use Rattle.pingpong.specs.declared.journal.Entry.{Entry}
 use Rattle.relay_core.specs.declared.receipt.Receipt.{Receipt}
 use Rattle.sample_store.specs.Aligned.{Aligned}
-use Rattle.line_world.specs.Journals.{ArePair}
-use Rattle.line_world.specs.declared.crossing.Crossing.{Crossing}
-use Rattle.line_world.specs.declared.crossing.Legs.{Legs}
+use Rattle.line_journal.specs.Stations.{ArePair}
+use Rattle.line_journal.specs.declared.crossing.Crossing.{Crossing}
+use Rattle.line_journal.specs.declared.crossing.Legs.{Legs}
 use Rattle.waveform_reader.specs.Sound.{IsStation}
 use Rattle.true_time.specs.Estimates.{IsInForce}
 use Rattle.true_time.specs.Places.{WasAccepted, WasJudged, WasPlaced, WasTaken, part_of, value_of}

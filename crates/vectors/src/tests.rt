@@ -1,5 +1,5 @@
 ghost use Rattle.std.specs.Prelude.{◌≡◌, IfOk, length};
-ghost use Rattle.line_world.specs.Occasions.{ways};
+ghost use Rattle.line_journal.specs.Stations.{ways};
 
 use bench_cmd::{Status, run};
 use ld_base::{MemorySink, MemorySource, Station};
@@ -11,7 +11,6 @@ use waveform_reader::{Scenario, read};
 mod ends;
 mod judging;
 mod reports;
-mod script_wires;
 mod words;
 mod worlds;
 

@@ -1,7 +1,7 @@
 use Rattle.std.proofs.Common.{arith}
 use Rattle.std.proofs.lemmas.List.Sums.{sum_by_more}
-use Rattle.line_world.specs.Totals.{no_total}
-use Rattle.line_world.specs.declared.line.Total.{Total}
+use Rattle.line_journal.specs.Totals.{no_total}
+use Rattle.line_journal.specs.declared.line.Total.{Total}
 use Rattle.bench_cmd.proofs.report_lines.write_sums.Goals as goal
 
 pub loop-total-preserved : goal.loop-total-preserved

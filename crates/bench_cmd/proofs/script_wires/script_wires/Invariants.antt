@@ -1,5 +1,5 @@
 use Rattle.std.specs.Prelude.{◌≡◌, [], map, take}
-use Rattle.line_world.specs.Wires.{rules_of}
+use Rattle.script_wire.specs.Wires.{rules_of}
 use Rattle.bench_cmd.proofs.script_wires.script_wires.Given as goal
 
 abbrev pub invariant-loop-from : goal.invariant-loop-from

@@ -1,5 +1,5 @@
 use Rattle.std.proofs.Common.{◌≡◌, [], append-nil}
-use Rattle.line_world.specs.Crossings.{Forged}
+use Rattle.line_journal.specs.Crossings.{Forged}
 use Rattle.line_world.specs.Occasions.{moments}
 use Rattle.calm_channel.proofs.Below.{world-run}
 use Rattle.calm_channel.proofs.Honest.{honest-all}

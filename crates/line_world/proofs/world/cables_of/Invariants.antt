@@ -1,5 +1,5 @@
 use Rattle.std.proofs.Common.{◌≡◌, length, map, take}
-use Rattle.line_world.specs.Occasions.{ways}
+use Rattle.line_journal.specs.Stations.{ways}
 use Rattle.line_world.specs.Tick.{way_of}
 use Rattle.line_world.proofs.world.cables_of.Given as goal
 

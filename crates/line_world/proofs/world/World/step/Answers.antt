@@ -11,7 +11,7 @@ use Rattle.line_world.proofs.world.World.step.Goals as goal
 
 pub returns-then-tick-end-clause-ended : goal.returns-then-tick-end-clause-ended
 returns-then-tick-end-clause-ended g c =
-    let end : c.end.result ≡ c.self.inside.hall.setup.end = c.end.ensures ∙ ap (λ (s : Setup). s.end) c.scenario-2.ensures.setup in
+    let end : c.end.result ≡ c.self.inside.terminals.setup.end = c.end.ensures ∙ ap (λ (s : Setup). s.end) c.scenario-2.ensures.setup in
     λ _. (
       refl,
       subst HasEnded c.self.view_is (ends g.W.Wire.faults g.W.Wire.script g.W.Wire.next_tick c.self.inside c.self.invariant c.if-self.false c.settings.result.now c.scenario.result.now
@@ -20,7 +20,7 @@ returns-then-tick-end-clause-ended g c =
 
 pub returns-then-tick-end-clause-run : goal.returns-then-tick-end-clause-run
 returns-then-tick-end-clause-run g c =
-    let end : c.end.result ≡ c.self.inside.hall.setup.end = c.end.ensures ∙ ap (λ (s : Setup). s.end) c.scenario-2.ensures.setup in
+    let end : c.end.result ≡ c.self.inside.terminals.setup.end = c.end.ensures ∙ ap (λ (s : Setup). s.end) c.scenario-2.ensures.setup in
     λ follows _. subst (λ (w : World). w.journal ≡ Run w.setup) c.self.view_is
     (runs_to_the_end g.W.Wire.faults g.W.Wire.script g.W.Wire.next_tick c.self.inside c.self.invariant c.if-self.false c.settings.result.now c.scenario.result.now
     c.next_due-tick.result c.deref.result.now c.settings.ensures.settings c.scenario.ensures.setup c.deref.ensures.value c.next_due-tick.ensures.due
@@ -29,34 +29,34 @@ returns-then-tick-end-clause-run g c =
 pub returns-then-is_err-clause-grows : goal.returns-then-is_err-clause-grows
 returns-then-is_err-clause-grows g c =
     let new : World = world_of g.W.Wire.faults g.W.Wire.script g.W.Wire.next_tick
-    (record { hall = c.make_room.new.self; cables = c.self.inside.cables; samples = c.self.inside.samples; next = c.self.inside.next; halted = true }) in
+    (record { terminals = c.make_room.new.self; cables = c.self.inside.cables; samples = c.self.inside.samples; next = c.self.inside.next; halted = true }) in
     subst (λ (w : World). Grows w new) c.self.view_is (keeps (world_of g.W.Wire.faults g.W.Wire.script g.W.Wire.next_tick c.self.inside) new c.make_room.ensures.journal refl)
 
 pub carry_out-requires-clause-samples : goal.carry_out-requires-clause-samples
 carry_out-requires-clause-samples g c =
-    λ k few. moved (λ s t _ _. IsNextSample s (suc k) t (slice_index c.self.inside.samples k)) c.self.inside.hall.setup c.make_room.new.self.setup
-    c.next_due-tick.result c.of-now.result.tick c.self.inside.hall.journal c.self.inside.hall.journal few few (sym c.make_room.ensures.setup) (sym c.of-now.ensures.tick) refl refl
+    λ k few. moved (λ s t _ _. IsNextSample s (suc k) t (slice_index c.self.inside.samples k)) c.self.inside.terminals.setup c.make_room.new.self.setup
+    c.next_due-tick.result c.now_at-now.result.tick c.self.inside.terminals.journal c.self.inside.terminals.journal few few (sym c.make_room.ensures.setup) (sym c.now_at-now.ensures.tick) refl refl
     (samples_at g.W.Wire.faults g.W.Wire.script g.W.Wire.next_tick c.self.inside c.self.invariant c.if-self.false c.settings.result.now c.scenario.result.now
     c.next_due-tick.result c.deref.result.now c.settings.ensures.settings c.scenario.ensures.setup c.deref.ensures.value c.next_due-tick.ensures.due
     k (omega (arith, ap (λ (s : Setup). s.settings.stations) c.make_room.ensures.setup)))
 
 pub invariant_of-self-then-is_err-2 : goal.invariant_of-self-then-is_err-2
 invariant_of-self-then-is_err-2 g c =
-    let end : c.end.result ≡ c.self.inside.hall.setup.end = c.end.ensures ∙ ap (λ (s : Setup). s.end) c.scenario-2.ensures.setup in
+    let end : c.end.result ≡ c.self.inside.terminals.setup.end = c.end.ensures ∙ ap (λ (s : Setup). s.end) c.scenario-2.ensures.setup in
     let new : World = world_of g.W.Wire.faults g.W.Wire.script g.W.Wire.next_tick (record {
-      hall = c.carry_out.new.hall;
+      terminals = c.carry_out.new.terminals;
       cables = with_items c.self.inside.cables c.carry_out.new.cables;
       samples = c.carry_out.new.samples;
       next = c.next_due-tick.result;
       halted = true;
     }) in
-    let same : new.setup ≡ c.self.inside.hall.setup = c.carry_out.ensures.setup ∙ c.make_room.ensures.setup in
-    let cut = cut_off g.W.Wire.faults g.W.Wire.script c.self.inside.hall.setup c.next_due-tick.result c.self.inside.hall.journal c.self.inside.cables c.make_room.new.self c.carry_out.new.hall
-    c.of-now.result.tick c.deref_mut.result.now c.carry_out.new.cables c.make_room.ensures.setup c.of-now.ensures.tick c.make_room.ensures.journal c.deref_mut.ensures.value
+    let same : new.setup ≡ c.self.inside.terminals.setup = c.carry_out.ensures.setup ∙ c.make_room.ensures.setup in
+    let cut = cut_off g.W.Wire.faults g.W.Wire.script c.self.inside.terminals.setup c.next_due-tick.result c.self.inside.terminals.journal c.self.inside.cables c.make_room.new.self c.carry_out.new.terminals
+    c.now_at-now.result.tick c.deref_mut.result.now c.carry_out.new.cables c.make_room.ensures.setup c.now_at-now.ensures.tick c.make_room.ensures.journal c.deref_mut.ensures.value
     (omega (arith, c.self.inside.cables.ok.0)) c.carry_out.result (sym c.is_err-2.ensures.value ∙ c.if-is_err-2.true) c.carry_out.ensures.cut in
     record {
-      lines = are_lines g.W.Wire.faults g.W.Wire.script c.self.inside.hall.setup c.next_due-tick.result c.self.inside.hall.journal c.self.inside.cables c.make_room.new.self c.carry_out.new.hall
-          c.of-now.result.tick c.deref_mut.result.now c.carry_out.new.cables c.make_room.ensures.setup c.of-now.ensures.tick c.make_room.ensures.journal c.deref_mut.ensures.value
+      lines = are_lines g.W.Wire.faults g.W.Wire.script c.self.inside.terminals.setup c.next_due-tick.result c.self.inside.terminals.journal c.self.inside.cables c.make_room.new.self c.carry_out.new.terminals
+          c.now_at-now.result.tick c.deref_mut.result.now c.carry_out.new.cables c.make_room.ensures.setup c.now_at-now.ensures.tick c.make_room.ensures.journal c.deref_mut.ensures.value
           (omega (arith, c.self.inside.cables.ok.0)) c.carry_out.ensures.setup c.carry_out.ensures.lines;
       samples = λ e. cc;
       world = world_stopped g.W.Wire.faults g.W.Wire.script g.W.Wire.next_tick c.self.inside c.self.invariant c.if-self.false c.settings.result.now c.scenario.result.now
@@ -65,17 +65,17 @@ invariant_of-self-then-is_err-2 g c =
 
 pub returns-then-is_err-2-clause-halted : goal.returns-then-is_err-2-clause-halted
 returns-then-is_err-2-clause-halted g c =
-    let end : c.end.result ≡ c.self.inside.hall.setup.end = c.end.ensures ∙ ap (λ (s : Setup). s.end) c.scenario-2.ensures.setup in
+    let end : c.end.result ≡ c.self.inside.terminals.setup.end = c.end.ensures ∙ ap (λ (s : Setup). s.end) c.scenario-2.ensures.setup in
     let new : World = world_of g.W.Wire.faults g.W.Wire.script g.W.Wire.next_tick (record {
-      hall = c.carry_out.new.hall;
+      terminals = c.carry_out.new.terminals;
       cables = with_items c.self.inside.cables c.carry_out.new.cables;
       samples = c.carry_out.new.samples;
       next = c.next_due-tick.result;
       halted = true;
     }) in
-    let same : new.setup ≡ c.self.inside.hall.setup = c.carry_out.ensures.setup ∙ c.make_room.ensures.setup in
-    let cut = cut_off g.W.Wire.faults g.W.Wire.script c.self.inside.hall.setup c.next_due-tick.result c.self.inside.hall.journal c.self.inside.cables c.make_room.new.self c.carry_out.new.hall
-    c.of-now.result.tick c.deref_mut.result.now c.carry_out.new.cables c.make_room.ensures.setup c.of-now.ensures.tick c.make_room.ensures.journal c.deref_mut.ensures.value
+    let same : new.setup ≡ c.self.inside.terminals.setup = c.carry_out.ensures.setup ∙ c.make_room.ensures.setup in
+    let cut = cut_off g.W.Wire.faults g.W.Wire.script c.self.inside.terminals.setup c.next_due-tick.result c.self.inside.terminals.journal c.self.inside.cables c.make_room.new.self c.carry_out.new.terminals
+    c.now_at-now.result.tick c.deref_mut.result.now c.carry_out.new.cables c.make_room.ensures.setup c.now_at-now.ensures.tick c.make_room.ensures.journal c.deref_mut.ensures.value
     (omega (arith, c.self.inside.cables.ok.0)) c.carry_out.result (sym c.is_err-2.ensures.value ∙ c.if-is_err-2.true) c.carry_out.ensures.cut in
     subst (λ (w : World). Halted w new) c.self.view_is
     (tick_halted g.W.Wire.faults g.W.Wire.script g.W.Wire.next_tick c.self.inside c.self.invariant c.if-self.false c.settings.result.now c.scenario.result.now
@@ -83,34 +83,34 @@ returns-then-is_err-2-clause-halted g c =
 
 pub returns-then-is_err-2-clause-world : goal.returns-then-is_err-2-clause-world
 returns-then-is_err-2-clause-world g c =
-    let end : c.end.result ≡ c.self.inside.hall.setup.end = c.end.ensures ∙ ap (λ (s : Setup). s.end) c.scenario-2.ensures.setup in
+    let end : c.end.result ≡ c.self.inside.terminals.setup.end = c.end.ensures ∙ ap (λ (s : Setup). s.end) c.scenario-2.ensures.setup in
     let new : World = world_of g.W.Wire.faults g.W.Wire.script g.W.Wire.next_tick (record {
-      hall = c.carry_out.new.hall;
+      terminals = c.carry_out.new.terminals;
       cables = with_items c.self.inside.cables c.carry_out.new.cables;
       samples = c.carry_out.new.samples;
       next = c.next_due-tick.result;
       halted = true;
     }) in
-    let same : new.setup ≡ c.self.inside.hall.setup = c.carry_out.ensures.setup ∙ c.make_room.ensures.setup in
-    let cut = cut_off g.W.Wire.faults g.W.Wire.script c.self.inside.hall.setup c.next_due-tick.result c.self.inside.hall.journal c.self.inside.cables c.make_room.new.self c.carry_out.new.hall
-    c.of-now.result.tick c.deref_mut.result.now c.carry_out.new.cables c.make_room.ensures.setup c.of-now.ensures.tick c.make_room.ensures.journal c.deref_mut.ensures.value
+    let same : new.setup ≡ c.self.inside.terminals.setup = c.carry_out.ensures.setup ∙ c.make_room.ensures.setup in
+    let cut = cut_off g.W.Wire.faults g.W.Wire.script c.self.inside.terminals.setup c.next_due-tick.result c.self.inside.terminals.journal c.self.inside.cables c.make_room.new.self c.carry_out.new.terminals
+    c.now_at-now.result.tick c.deref_mut.result.now c.carry_out.new.cables c.make_room.ensures.setup c.now_at-now.ensures.tick c.make_room.ensures.journal c.deref_mut.ensures.value
     (omega (arith, c.self.inside.cables.ok.0)) c.carry_out.result (sym c.is_err-2.ensures.value ∙ c.if-is_err-2.true) c.carry_out.ensures.cut in
     world_stopped g.W.Wire.faults g.W.Wire.script g.W.Wire.next_tick c.self.inside c.self.invariant c.if-self.false c.settings.result.now c.scenario.result.now
     c.next_due-tick.result c.deref.result.now c.settings.ensures.settings c.scenario.ensures.setup c.deref.ensures.value c.next_due-tick.ensures.due new same (omega arith) refl refl cut
 
 pub returns-then-is_err-2-clause-follows : goal.returns-then-is_err-2-clause-follows
 returns-then-is_err-2-clause-follows g c =
-    let end : c.end.result ≡ c.self.inside.hall.setup.end = c.end.ensures ∙ ap (λ (s : Setup). s.end) c.scenario-2.ensures.setup in
+    let end : c.end.result ≡ c.self.inside.terminals.setup.end = c.end.ensures ∙ ap (λ (s : Setup). s.end) c.scenario-2.ensures.setup in
     let new : World = world_of g.W.Wire.faults g.W.Wire.script g.W.Wire.next_tick (record {
-      hall = c.carry_out.new.hall;
+      terminals = c.carry_out.new.terminals;
       cables = with_items c.self.inside.cables c.carry_out.new.cables;
       samples = c.carry_out.new.samples;
       next = c.next_due-tick.result;
       halted = true;
     }) in
-    let same : new.setup ≡ c.self.inside.hall.setup = c.carry_out.ensures.setup ∙ c.make_room.ensures.setup in
-    let cut = cut_off g.W.Wire.faults g.W.Wire.script c.self.inside.hall.setup c.next_due-tick.result c.self.inside.hall.journal c.self.inside.cables c.make_room.new.self c.carry_out.new.hall
-    c.of-now.result.tick c.deref_mut.result.now c.carry_out.new.cables c.make_room.ensures.setup c.of-now.ensures.tick c.make_room.ensures.journal c.deref_mut.ensures.value
+    let same : new.setup ≡ c.self.inside.terminals.setup = c.carry_out.ensures.setup ∙ c.make_room.ensures.setup in
+    let cut = cut_off g.W.Wire.faults g.W.Wire.script c.self.inside.terminals.setup c.next_due-tick.result c.self.inside.terminals.journal c.self.inside.cables c.make_room.new.self c.carry_out.new.terminals
+    c.now_at-now.result.tick c.deref_mut.result.now c.carry_out.new.cables c.make_room.ensures.setup c.now_at-now.ensures.tick c.make_room.ensures.journal c.deref_mut.ensures.value
     (omega (arith, c.self.inside.cables.ok.0)) c.carry_out.result (sym c.is_err-2.ensures.value ∙ c.if-is_err-2.true) c.carry_out.ensures.cut in
     λ follows. script_stopped g.W.Wire.faults g.W.Wire.script g.W.Wire.next_tick c.self.inside c.self.invariant c.if-self.false c.settings.result.now c.scenario.result.now
     c.next_due-tick.result c.deref.result.now c.settings.ensures.settings c.scenario.ensures.setup c.deref.ensures.value c.next_due-tick.ensures.due new same (omega arith) refl refl cut
@@ -118,28 +118,28 @@ returns-then-is_err-2-clause-follows g c =
 
 pub invariant_of-self-2 : goal.invariant_of-self-2
 invariant_of-self-2 g c =
-    let end : c.end.result ≡ c.self.inside.hall.setup.end = c.end.ensures ∙ ap (λ (s : Setup). s.end) c.scenario-2.ensures.setup in
+    let end : c.end.result ≡ c.self.inside.terminals.setup.end = c.end.ensures ∙ ap (λ (s : Setup). s.end) c.scenario-2.ensures.setup in
     let new : World = world_of g.W.Wire.faults g.W.Wire.script g.W.Wire.next_tick (record {
-      hall = c.carry_out.new.hall;
+      terminals = c.carry_out.new.terminals;
       cables = with_items c.self.inside.cables c.carry_out.new.cables;
       samples = c.carry_out.new.samples;
       next = c.next_due-tick.result + 1;
       halted = c.self.inside.halted;
     }) in
-    let same : new.setup ≡ c.self.inside.hall.setup = c.carry_out.ensures.setup ∙ c.make_room.ensures.setup in
-    let passes = passed g.W.Wire.faults g.W.Wire.script c.self.inside.hall.setup c.next_due-tick.result c.self.inside.hall.journal c.self.inside.cables c.make_room.new.self c.carry_out.new.hall
-    c.of-now.result.tick c.deref_mut.result.now c.carry_out.new.cables c.make_room.ensures.setup c.of-now.ensures.tick c.make_room.ensures.journal c.deref_mut.ensures.value
+    let same : new.setup ≡ c.self.inside.terminals.setup = c.carry_out.ensures.setup ∙ c.make_room.ensures.setup in
+    let passes = passed g.W.Wire.faults g.W.Wire.script c.self.inside.terminals.setup c.next_due-tick.result c.self.inside.terminals.journal c.self.inside.cables c.make_room.new.self c.carry_out.new.terminals
+    c.now_at-now.result.tick c.deref_mut.result.now c.carry_out.new.cables c.make_room.ensures.setup c.now_at-now.ensures.tick c.make_room.ensures.journal c.deref_mut.ensures.value
     (omega (arith, c.self.inside.cables.ok.0)) c.carry_out.result (sym c.is_err-2.ensures.value ∙ c.if-is_err-2.false) c.carry_out.ensures.passes in
     let next = on_ok c.carry_out.result ((k : ℕ) → suc k ≤ c.make_room.new.self.setup.settings.stations
-    → IsNextSample c.make_room.new.self.setup (suc k) (suc c.of-now.result.tick) (slice_index c.carry_out.new.samples k))
+    → IsNextSample c.make_room.new.self.setup (suc k) (suc c.now_at-now.result.tick) (slice_index c.carry_out.new.samples k))
     (sym c.is_err-2.ensures.value ∙ c.if-is_err-2.false) c.carry_out.ensures.next in
-    let after : suc c.of-now.result.tick ≡ c.next_due-tick.result + 1 = omega (arith, c.of-now.ensures.tick) in
+    let after : suc c.now_at-now.result.tick ≡ c.next_due-tick.result + 1 = omega (arith, c.now_at-now.ensures.tick) in
     record {
-      lines = are_lines g.W.Wire.faults g.W.Wire.script c.self.inside.hall.setup c.next_due-tick.result c.self.inside.hall.journal c.self.inside.cables c.make_room.new.self c.carry_out.new.hall
-          c.of-now.result.tick c.deref_mut.result.now c.carry_out.new.cables c.make_room.ensures.setup c.of-now.ensures.tick c.make_room.ensures.journal c.deref_mut.ensures.value
+      lines = are_lines g.W.Wire.faults g.W.Wire.script c.self.inside.terminals.setup c.next_due-tick.result c.self.inside.terminals.journal c.self.inside.cables c.make_room.new.self c.carry_out.new.terminals
+          c.now_at-now.result.tick c.deref_mut.result.now c.carry_out.new.cables c.make_room.ensures.setup c.now_at-now.ensures.tick c.make_room.ensures.journal c.deref_mut.ensures.value
           (omega (arith, c.self.inside.cables.ok.0)) c.carry_out.ensures.setup c.carry_out.ensures.lines;
-      samples = λ _ k few. moved (λ s t _ _. IsNextSample s (suc k) t (slice_index c.carry_out.new.samples k)) c.make_room.new.self.setup c.carry_out.new.hall.setup
-          (suc c.of-now.result.tick) (c.next_due-tick.result + 1) c.self.inside.hall.journal c.self.inside.hall.journal few few (sym c.carry_out.ensures.setup) after refl refl
+      samples = λ _ k few. moved (λ s t _ _. IsNextSample s (suc k) t (slice_index c.carry_out.new.samples k)) c.make_room.new.self.setup c.carry_out.new.terminals.setup
+          (suc c.now_at-now.result.tick) (c.next_due-tick.result + 1) c.self.inside.terminals.journal c.self.inside.terminals.journal few few (sym c.carry_out.ensures.setup) after refl refl
           (next k (omega (arith, ap (λ (s : Setup). s.settings.stations) c.carry_out.ensures.setup)));
       world = world_went g.W.Wire.faults g.W.Wire.script g.W.Wire.next_tick c.self.inside c.self.invariant c.if-self.false c.settings.result.now c.scenario.result.now
           c.next_due-tick.result c.deref.result.now c.settings.ensures.settings c.scenario.ensures.setup c.deref.ensures.value c.next_due-tick.ensures.due new same (omega arith) (omega arith) passes;
@@ -147,17 +147,17 @@ invariant_of-self-2 g c =
 
 pub returns-clause-went : goal.returns-clause-went
 returns-clause-went g c =
-    let end : c.end.result ≡ c.self.inside.hall.setup.end = c.end.ensures ∙ ap (λ (s : Setup). s.end) c.scenario-2.ensures.setup in
+    let end : c.end.result ≡ c.self.inside.terminals.setup.end = c.end.ensures ∙ ap (λ (s : Setup). s.end) c.scenario-2.ensures.setup in
     let new : World = world_of g.W.Wire.faults g.W.Wire.script g.W.Wire.next_tick (record {
-      hall = c.carry_out.new.hall;
+      terminals = c.carry_out.new.terminals;
       cables = with_items c.self.inside.cables c.carry_out.new.cables;
       samples = c.carry_out.new.samples;
       next = c.next_due-tick.result + 1;
       halted = c.self.inside.halted;
     }) in
-    let same : new.setup ≡ c.self.inside.hall.setup = c.carry_out.ensures.setup ∙ c.make_room.ensures.setup in
-    let passes = passed g.W.Wire.faults g.W.Wire.script c.self.inside.hall.setup c.next_due-tick.result c.self.inside.hall.journal c.self.inside.cables c.make_room.new.self c.carry_out.new.hall
-    c.of-now.result.tick c.deref_mut.result.now c.carry_out.new.cables c.make_room.ensures.setup c.of-now.ensures.tick c.make_room.ensures.journal c.deref_mut.ensures.value
+    let same : new.setup ≡ c.self.inside.terminals.setup = c.carry_out.ensures.setup ∙ c.make_room.ensures.setup in
+    let passes = passed g.W.Wire.faults g.W.Wire.script c.self.inside.terminals.setup c.next_due-tick.result c.self.inside.terminals.journal c.self.inside.cables c.make_room.new.self c.carry_out.new.terminals
+    c.now_at-now.result.tick c.deref_mut.result.now c.carry_out.new.cables c.make_room.ensures.setup c.now_at-now.ensures.tick c.make_room.ensures.journal c.deref_mut.ensures.value
     (omega (arith, c.self.inside.cables.ok.0)) c.carry_out.result (sym c.is_err-2.ensures.value ∙ c.if-is_err-2.false) c.carry_out.ensures.passes in
     λ tick e.
     let is : c.next_due-tick.result ≡ tick = cc in
@@ -168,34 +168,34 @@ returns-clause-went g c =
 
 pub returns-clause-world : goal.returns-clause-world
 returns-clause-world g c =
-    let end : c.end.result ≡ c.self.inside.hall.setup.end = c.end.ensures ∙ ap (λ (s : Setup). s.end) c.scenario-2.ensures.setup in
+    let end : c.end.result ≡ c.self.inside.terminals.setup.end = c.end.ensures ∙ ap (λ (s : Setup). s.end) c.scenario-2.ensures.setup in
     let new : World = world_of g.W.Wire.faults g.W.Wire.script g.W.Wire.next_tick (record {
-      hall = c.carry_out.new.hall;
+      terminals = c.carry_out.new.terminals;
       cables = with_items c.self.inside.cables c.carry_out.new.cables;
       samples = c.carry_out.new.samples;
       next = c.next_due-tick.result + 1;
       halted = c.self.inside.halted;
     }) in
-    let same : new.setup ≡ c.self.inside.hall.setup = c.carry_out.ensures.setup ∙ c.make_room.ensures.setup in
-    let passes = passed g.W.Wire.faults g.W.Wire.script c.self.inside.hall.setup c.next_due-tick.result c.self.inside.hall.journal c.self.inside.cables c.make_room.new.self c.carry_out.new.hall
-    c.of-now.result.tick c.deref_mut.result.now c.carry_out.new.cables c.make_room.ensures.setup c.of-now.ensures.tick c.make_room.ensures.journal c.deref_mut.ensures.value
+    let same : new.setup ≡ c.self.inside.terminals.setup = c.carry_out.ensures.setup ∙ c.make_room.ensures.setup in
+    let passes = passed g.W.Wire.faults g.W.Wire.script c.self.inside.terminals.setup c.next_due-tick.result c.self.inside.terminals.journal c.self.inside.cables c.make_room.new.self c.carry_out.new.terminals
+    c.now_at-now.result.tick c.deref_mut.result.now c.carry_out.new.cables c.make_room.ensures.setup c.now_at-now.ensures.tick c.make_room.ensures.journal c.deref_mut.ensures.value
     (omega (arith, c.self.inside.cables.ok.0)) c.carry_out.result (sym c.is_err-2.ensures.value ∙ c.if-is_err-2.false) c.carry_out.ensures.passes in
     world_went g.W.Wire.faults g.W.Wire.script g.W.Wire.next_tick c.self.inside c.self.invariant c.if-self.false c.settings.result.now c.scenario.result.now
     c.next_due-tick.result c.deref.result.now c.settings.ensures.settings c.scenario.ensures.setup c.deref.ensures.value c.next_due-tick.ensures.due new same (omega arith) (omega arith) passes
 
 pub returns-clause-follows : goal.returns-clause-follows
 returns-clause-follows g c =
-    let end : c.end.result ≡ c.self.inside.hall.setup.end = c.end.ensures ∙ ap (λ (s : Setup). s.end) c.scenario-2.ensures.setup in
+    let end : c.end.result ≡ c.self.inside.terminals.setup.end = c.end.ensures ∙ ap (λ (s : Setup). s.end) c.scenario-2.ensures.setup in
     let new : World = world_of g.W.Wire.faults g.W.Wire.script g.W.Wire.next_tick (record {
-      hall = c.carry_out.new.hall;
+      terminals = c.carry_out.new.terminals;
       cables = with_items c.self.inside.cables c.carry_out.new.cables;
       samples = c.carry_out.new.samples;
       next = c.next_due-tick.result + 1;
       halted = c.self.inside.halted;
     }) in
-    let same : new.setup ≡ c.self.inside.hall.setup = c.carry_out.ensures.setup ∙ c.make_room.ensures.setup in
-    let passes = passed g.W.Wire.faults g.W.Wire.script c.self.inside.hall.setup c.next_due-tick.result c.self.inside.hall.journal c.self.inside.cables c.make_room.new.self c.carry_out.new.hall
-    c.of-now.result.tick c.deref_mut.result.now c.carry_out.new.cables c.make_room.ensures.setup c.of-now.ensures.tick c.make_room.ensures.journal c.deref_mut.ensures.value
+    let same : new.setup ≡ c.self.inside.terminals.setup = c.carry_out.ensures.setup ∙ c.make_room.ensures.setup in
+    let passes = passed g.W.Wire.faults g.W.Wire.script c.self.inside.terminals.setup c.next_due-tick.result c.self.inside.terminals.journal c.self.inside.cables c.make_room.new.self c.carry_out.new.terminals
+    c.now_at-now.result.tick c.deref_mut.result.now c.carry_out.new.cables c.make_room.ensures.setup c.now_at-now.ensures.tick c.make_room.ensures.journal c.deref_mut.ensures.value
     (omega (arith, c.self.inside.cables.ok.0)) c.carry_out.result (sym c.is_err-2.ensures.value ∙ c.if-is_err-2.false) c.carry_out.ensures.passes in
     λ follows. script_went g.W.Wire.faults g.W.Wire.script g.W.Wire.next_tick c.self.inside c.self.invariant c.if-self.false c.settings.result.now c.scenario.result.now
     c.next_due-tick.result c.deref.result.now c.settings.ensures.settings c.scenario.ensures.setup c.deref.ensures.value c.next_due-tick.ensures.due new same (omega arith) (omega arith) passes
@@ -203,21 +203,21 @@ returns-clause-follows g c =
 
 pub returns-then-is_err-clause-again : goal.returns-then-is_err-clause-again
 returns-then-is_err-clause-again g c =
-    let end : c.end.result ≡ c.self.inside.hall.setup.end = c.end.ensures ∙ ap (λ (s : Setup). s.end) c.scenario-2.ensures.setup in
+    let end : c.end.result ≡ c.self.inside.terminals.setup.end = c.end.ensures ∙ ap (λ (s : Setup). s.end) c.scenario-2.ensures.setup in
     λ ended. goes_on g.W.Wire.faults g.W.Wire.script g.W.Wire.next_tick c.self.inside c.self.invariant c.if-self.false c.settings.result.now c.scenario.result.now
     c.next_due-tick.result c.deref.result.now c.settings.ensures.settings c.scenario.ensures.setup c.deref.ensures.value c.next_due-tick.ensures.due
     (omega arith) (subst HasEnded (sym c.self.view_is) ended)
 
 pub returns-then-is_err-2-clause-again : goal.returns-then-is_err-2-clause-again
 returns-then-is_err-2-clause-again g c =
-    let end : c.end.result ≡ c.self.inside.hall.setup.end = c.end.ensures ∙ ap (λ (s : Setup). s.end) c.scenario-2.ensures.setup in
+    let end : c.end.result ≡ c.self.inside.terminals.setup.end = c.end.ensures ∙ ap (λ (s : Setup). s.end) c.scenario-2.ensures.setup in
     λ ended. goes_on g.W.Wire.faults g.W.Wire.script g.W.Wire.next_tick c.self.inside c.self.invariant c.if-self.false c.settings.result.now c.scenario.result.now
     c.next_due-tick.result c.deref.result.now c.settings.ensures.settings c.scenario.ensures.setup c.deref.ensures.value c.next_due-tick.ensures.due
     (omega arith) (subst HasEnded (sym c.self.view_is) ended)
 
 pub returns-clause-again : goal.returns-clause-again
 returns-clause-again g c =
-    let end : c.end.result ≡ c.self.inside.hall.setup.end = c.end.ensures ∙ ap (λ (s : Setup). s.end) c.scenario-2.ensures.setup in
+    let end : c.end.result ≡ c.self.inside.terminals.setup.end = c.end.ensures ∙ ap (λ (s : Setup). s.end) c.scenario-2.ensures.setup in
     λ ended. goes_on g.W.Wire.faults g.W.Wire.script g.W.Wire.next_tick c.self.inside c.self.invariant c.if-self.false c.settings.result.now c.scenario.result.now
     c.next_due-tick.result c.deref.result.now c.settings.ensures.settings c.scenario.ensures.setup c.deref.ensures.value c.next_due-tick.ensures.due
     (omega arith) (subst HasEnded (sym c.self.view_is) ended)
@@ -252,14 +252,14 @@ pub returns-then-is_err-clause-over : goal.returns-then-is_err-clause-over
 returns-then-is_err-clause-over g c = (
   _,
   over_its_wires g.W.Wire.faults g.W.Wire.script g.W.Wire.next_tick
-      (record { hall = c.make_room.new.self; cables = c.self.inside.cables; samples = c.self.inside.samples; next = c.self.inside.next; halted = true }),
+      (record { terminals = c.make_room.new.self; cables = c.self.inside.cables; samples = c.self.inside.samples; next = c.self.inside.next; halted = true }),
 )
 
 pub returns-then-is_err-2-clause-over : goal.returns-then-is_err-2-clause-over
 returns-then-is_err-2-clause-over g c = (
   _,
   over_its_wires g.W.Wire.faults g.W.Wire.script g.W.Wire.next_tick (record {
-    hall = c.carry_out.new.hall;
+    terminals = c.carry_out.new.terminals;
     cables = with_items c.self.inside.cables c.carry_out.new.cables;
     samples = c.carry_out.new.samples;
     next = c.next_due-tick.result;
@@ -271,7 +271,7 @@ pub returns-clause-over : goal.returns-clause-over
 returns-clause-over g c = (
   _,
   over_its_wires g.W.Wire.faults g.W.Wire.script g.W.Wire.next_tick (record {
-    hall = c.carry_out.new.hall;
+    terminals = c.carry_out.new.terminals;
     cables = with_items c.self.inside.cables c.carry_out.new.cables;
     samples = c.carry_out.new.samples;
     next = c.next_due-tick.result + 1;

@@ -1,0 +1,13 @@
+pub mod Beginnings
+pub mod Histories
+pub mod Entries
+pub mod Tallies
+pub mod LineLists
+pub mod Rising
+pub mod InForces
+pub mod Rooms
+pub mod Accounts
+pub mod HistoryWays
+pub mod Departures
+pub mod Receipts
+pub mod Errors

@@ -1,6 +1,0 @@
-use Rattle.std.specs.Prelude.{◌==◌, find}
-use Rattle.std.proofs.Common.{◌≡◌, None, take}
-use Rattle.line_world.proofs.book.begun_to.Given as goal
-
-abbrev pub invariant-loop-outgoing : goal.invariant-loop-outgoing
-invariant-loop-outgoing l = find (λ o. o.to == l.to) (take l.outgoing-index l.frames) ≡ None

@@ -1,0 +1,4 @@
+mod FrameBits
+mod Acts
+mod Queues
+pub mod NextTicks
