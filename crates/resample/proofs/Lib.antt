@@ -1,0 +1,5 @@
+pub mod Hearing
+pub mod Instants
+pub mod Parts
+pub mod Quotients
+pub mod Weighing

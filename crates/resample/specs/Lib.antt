@@ -1,0 +1,5 @@
+pub mod Between
+pub mod Mixed
+pub mod Mixer
+pub mod Quotient
+pub mod Values
