@@ -96,8 +96,9 @@ def cases():
     worded = [row[0].partition("`")[2].partition("`")[0].split() for row in rows("docs/FORMATS.md", "Command words")]
     yield "FORMATS.md has the commands of the usage line", worded, commands
     names = "crates/waveform_reader/specs/Names.antt"
+    key_names = "crates/setting_rows/specs/Keys.antt"
     keys = [row[0].strip("`") for row in rows("docs/FORMATS.md", "Settings")]
-    yield "FORMATS.md has the key of each setting", keys, words_of(names, "key_name")
+    yield "FORMATS.md has the key of each setting", keys, words_of(key_names, "key_name")
     records = [row[0].strip("`") for row in rows("docs/FORMATS.md", "Scenario")]
     yield "FORMATS.md has each record of a scenario", records, ["#", "set"] + words_of(names, "kind_name")
     alarms = [row[0].strip("`") for row in rows("docs/FORMATS.md", "Report", "| name |")]

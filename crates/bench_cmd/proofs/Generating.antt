@@ -7,7 +7,7 @@ use Rattle.std.proofs.lemmas.List.Sums.{count_by-le-length, length-filter, sum_b
 use Rattle.row_reader.specs.Rows.{rows_of}
 use Rattle.waveform_reader.specs.Scenario.{Setup, scenario_of}
 use Rattle.text_lines.proofs.Rows.{row-line_of}
-use Rattle.scenario_generator.proofs.Fields.{IsLong}
+use Rattle.row_reader.proofs.NumberTexts.{IsLong}
 use Rattle.scenario_generator.specs.Rows.{remark_line, scenario_text}
 use Rattle.pingpong.specs.declared.journal.Entry.{Entry}
 use Rattle.ld_base.specs.declared.fields.Fields.{Fields}

@@ -1,5 +1,6 @@
 pub mod Hearing
-pub mod Instants
+pub mod Nearness
+pub mod OwnNumbers
 pub mod Parts
 pub mod Quotients
 pub mod Weighing

@@ -12,7 +12,7 @@ use Rattle.resample.specs.Between.{IsBetween, own_number, sample_number, weight}
 use Rattle.resample.specs.Mixed.{Heard, MixedOf, mixed_at, mixed_by, mixed_with, in_force_at, follows}
 use Rattle.resample.specs.Values.{mixed_phases, LieBetween}
 use Rattle.resample.specs.declared.mixed.Mixed.{Mixed}
-use Rattle.resample.proofs.Instants.{IsBetween-own_number, weight-below}
+use Rattle.resample.proofs.OwnNumbers.{IsBetween-own_number, weight-below}
 use Rattle.resample.proofs.Weighing.{mixed_value-between, mixed_value-first}
 
 -- the parts of what is mixed of two messages

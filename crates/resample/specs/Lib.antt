@@ -1,4 +1,5 @@
 pub mod Between
+pub mod Instants
 pub mod Mixed
 pub mod Mixer
 pub mod Quotient

@@ -4,8 +4,11 @@ ghost use Rattle.std.specs.Prelude.{◌≡◌, ℕ, ◌*◌, ◌<◌, ◌≤◌,
 ghost use Rattle.std.specs.List.{last_or};
 ghost use Rattle.std.specs.Option.{ForSome};
 ghost use Rattle.ld_base.specs.declared.fields.Fields.{Fields};
+ghost use Rattle.pingpong.specs.Bounded.{Passage, asymmetry, stamps};
 ghost use Rattle.pingpong.specs.Exchange.{estimate2};
+ghost use Rattle.pingpong.specs.Reading.{Reading};
 ghost use Rattle.resample.specs.Between.{IsBetween, own_number, weight};
+ghost use Rattle.resample.specs.Instants.{AreMixed, age_of_mixed, mixed_bound, mixed_error};
 ghost use Rattle.resample.specs.Mixed.{Heard, MixedOf};
 ghost use Rattle.resample.specs.Quotient.{IsRoundedDown};
 ghost use Rattle.resample.specs.Values.{LieBetween, LiesBetween, mixed_value, weighed};
@@ -43,4 +46,12 @@ pub fn what_is_mixed_lies_between()
         → mixed.values ≡ earlier.message.phases }
     ensures number { (f : Fields) (before : List Heard) (h : Heard) (mixed : Mixed) → 0 < f.spacing → MixedOf f before h ≡ Some mixed
         → IsBetween f.spacing mixed.first (estimate2 mixed.exchange) (pos mixed.own) }
+{}
+
+/// The law of mixed instants: an own sample was taken at nearly the time to which its weight puts it, between the two samples of
+/// the peer. The spacing is no part of what may lie between.
+pub fn mixed_instants_are_near()
+    ensures { (spacing drift : ℕ) (p : Passage) (own one other : Reading) (n first now : ℕ) → AreMixed spacing drift p own one other n first now
+        → mixed_error spacing (weight spacing first (estimate2 (stamps p)) n) own.time one.time other.time
+        ≤ mixed_bound spacing drift (asymmetry p) (age_of_mixed p.sent.time own.time one.time now) }
 {}

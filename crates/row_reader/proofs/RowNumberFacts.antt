@@ -1,9 +1,11 @@
--- Numbers that are read one after another.
-use Rattle.std.proofs.Common.{◌≡◌, refl, ap, ℕ, zero, suc, ◌+◌, ◌<◌, length, drop, ℤ, List, [], ◌∷◌, ◌++◌, Option, Some, None, append_assoc, arith}
+-- Numbers that are read one after another, and their ranges.
+use Rattle.std.proofs.Common.{◌≡◌, refl, ap, ℕ, zero, suc, ◌+◌, ◌<◌, length, drop, ℤ, List, [], ◌∷◌, ◌++◌, Option, Some, None, append_assoc, arith, ◌≤◌, true, pos}
 use Rattle.std.specs.Prelude.{option_and_then}
+use Rattle.std.proofs.lemmas.Bool.Decides.{nat_tests}
+use Rattle.std.proofs.lemmas.Int.{ints}
 use Rattle.csv.specs.Records.{field_at}
 use Rattle.row_reader.specs.Numbers.{number}
-use Rattle.row_reader.specs.RowNumbers.{both, numbers_of}
+use Rattle.row_reader.specs.RowNumbers.{both, is_between, numbers_of}
 use Rattle.row_reader.specs.Rows.{Row}
 
 -- numbers that were read, in front of others
@@ -31,3 +33,7 @@ unfolding field_at
 numbers_none [] done place inside is = absurd (omega arith)
 numbers_none (field ∷ fields) done zero inside is = rw is refl
 numbers_none (field ∷ fields) done (suc place) inside is = numbers_none fields done place (omega arith) is
+
+-- a number in its range
+pub between : (least greatest n : ℕ) → least ≤ n → n ≤ greatest → is_between (pos least, pos greatest) (pos n) ≡ true
+between least greatest n low high = grind (arith, ints, nat_tests)

@@ -1,5 +1,4 @@
 pub mod Draws
-pub mod Fields
 pub mod Passing
 pub mod Scenarios
 pub mod Sections

@@ -13,12 +13,13 @@ use Rattle.row_reader.specs.PlainRows.{is_plain_row}
 use Rattle.row_reader.specs.RowNumbers.{is_between}
 use Rattle.row_reader.specs.Rows.{Row}
 use Rattle.waveform_reader.specs.Draft.{Draft, is_later_delay, is_rule_too_many, latest, row_fault, row_faults, with_row}
-use Rattle.waveform_reader.specs.Head.{Head}
+use Rattle.setting_rows.specs.Head.{Head}
 use Rattle.waveform_reader.specs.Names.{kind_of}
 use Rattle.waveform_reader.specs.declared.shape.Shape.TheVariants as shape
 use Rattle.waveform_reader.specs.declared.shape.ShapeFrom.{ShapeFrom}
 use Rattle.scenario_generator.specs.Rows.{row}
-use Rattle.scenario_generator.proofs.Fields.{IsLong, IsShort, number-decimal, number-signed, numbers_plain}
+use Rattle.row_reader.proofs.RowNumberFacts.{between}
+use Rattle.row_reader.proofs.NumberTexts.{IsLong, IsShort, number-decimal, number-signed, numbers_plain}
 
 -- a plain row breaks no rule behind the records of a draft, and adds to them
 pub record Passed (head : Head) (draft : Draft) (this : Row) (next : Draft) : Type 0 where
@@ -47,10 +48,6 @@ no_fault at (more p ps) = rw (p.good, p.adds) (no_fault (at + 1) ps)
 pub all_plain : {head : Head} {draft next : Draft} {rows : List Row} → Passes head draft rows next → AllByRecursion (λ r. is_plain_row r ≡ true) rows
 all_plain none = tt
 all_plain (more p ps) = (p.plain, all_plain ps)
-
--- a number in a span
-pub between : (least greatest n : ℕ) → least ≤ n → n ≤ greatest → is_between (pos least, pos greatest) (pos n) ≡ true
-between least greatest n low high = grind (arith, ints, nat_tests)
 
 -- settings of so many stations with a drift of 50
 pub record Keeps (head : Head) (stations : ℕ) : Type 0 where

@@ -10,10 +10,11 @@ use Rattle.row_reader.specs.Faults.{first_fault}
 use Rattle.row_reader.specs.PlainRows.{is_plain_row, line_of, text_of}
 use Rattle.row_reader.specs.Rows.{Row}
 use Rattle.waveform_reader.specs.Draft.{Draft, no_records, with_row}
-use Rattle.waveform_reader.specs.Head.{Head, heading_faults, no_settings, with_heading}
-use Rattle.waveform_reader.specs.Scenario.{Setup, body_fault, draft_of, head_rows, scenario_of, setup_of, whole_fault}
+use Rattle.setting_rows.specs.Head.{Head, head_rows, heading_faults, no_settings, whole_fault, with_heading}
+use Rattle.waveform_reader.specs.Scenario.{Setup, body_fault, draft_of, scenario_of, setup_of}
+use Rattle.setting_rows.specs.declared.setting.Known.TheVariants as known
 use Rattle.scenario_generator.specs.Rows.{all_clock_rows, delay_rows, flip_rows, remark_row, rows_by, set_rows, wave_rows}
-use Rattle.scenario_generator.proofs.Fields.{IsLong, numbers_plain}
+use Rattle.row_reader.proofs.NumberTexts.{IsLong, numbers_plain}
 use Rattle.scenario_generator.proofs.Passing.{Keeps, Passed, Passes, all_plain, joined, no_fault}
 use Rattle.scenario_generator.proofs.Sections.{clock_passes, clocked, delays_2, delays_3, delays_pass_2, delays_pass_3, flips_pass, waves_pass, with_rules, with_shapes}
 use Rattle.scenario_generator.proofs.Passing.Passes.{none, more}
@@ -21,9 +22,9 @@ use Rattle.scenario_generator.proofs.Settings.{set_head, settings_good, settings
 
 -- rows whose settings are whole, and whose records break no rule, are a scenario
 whole_scenario : (rows heads body : List Row) → head_rows rows ≡ heads → drop (length heads) rows ≡ body
-    → first_fault 1 (heading_faults no_settings heads) ≡ None → whole_fault (fold with_heading no_settings heads) ≡ None
-    → body_fault (fold with_heading no_settings heads) (length heads + 1) body ≡ None
-    → scenario_of rows ≡ Ok (setup_of (fold with_heading no_settings heads).fields (fold with_heading no_settings heads).end (draft_of (fold with_heading no_settings heads) body))
+    → first_fault 1 (heading_faults known.Scenario no_settings heads) ≡ None → whole_fault known.Scenario (fold (with_heading known.Scenario) no_settings heads) ≡ None
+    → body_fault (fold (with_heading known.Scenario) no_settings heads) (length heads + 1) body ≡ None
+    → scenario_of rows ≡ Ok (setup_of (fold (with_heading known.Scenario) no_settings heads).fields (fold (with_heading known.Scenario) no_settings heads).end (draft_of (fold (with_heading known.Scenario) no_settings heads) body))
 whole_scenario rows heads body front rest good whole fine = rw (front, rest, good, whole, fine) refl
 
 -- a remark breaks no rule and adds nothing

@@ -7,11 +7,11 @@ use Rattle.row_reader.specs.RowNumbers.{is_between}
 use Rattle.ld_base.specs.declared.rule.Rule.{Rule}
 use Rattle.waveform_reader.specs.Draft.{Draft, is_later_delay, is_rule_too_many, latest}
 use Rattle.waveform_reader.specs.declared.shape.ShapeFrom.{ShapeFrom}
-use Rattle.waveform_reader.specs.Head.{Head}
+use Rattle.setting_rows.specs.Head.{Head}
 use Rattle.scenario_generator.specs.Lines.{Line, line_at, line_count}
 use Rattle.scenario_generator.specs.Rows.{clock_rows, delay_rows, flip_place, flip_row, row, wave_place, wave_row, wave_rows}
 use Rattle.scenario_generator.specs.Words.{word}
-use Rattle.scenario_generator.proofs.Fields.{IsShort}
+use Rattle.row_reader.proofs.NumberTexts.{IsShort}
 use Rattle.scenario_generator.proofs.Passing.{Keeps, Passed, Passes, clock_passed, delay_passed, delay_rule, flip_passed, flip_rule, not_above, rate_passed, wave_passed, wave_shape, with_clock, with_rate, with_rule, with_shape}
 use Rattle.scenario_generator.proofs.Passing.Passes.{none, more}
 

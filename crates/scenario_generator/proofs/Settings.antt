@@ -6,13 +6,14 @@ use Rattle.ld_base.specs.Settings.{key_out_of_range, setting_fault, usual}
 use Rattle.ld_base.specs.declared.fields.Fields.{Fields}
 use Rattle.row_reader.specs.Faults.{first_fault}
 use Rattle.row_reader.specs.PlainRows.{is_plain_row}
-use Rattle.waveform_reader.specs.Head.{Head, heading_faults, no_settings, with_heading}
-use Rattle.waveform_reader.specs.Names.{setting_of}
-use Rattle.waveform_reader.specs.Scenario.{whole_fault}
+use Rattle.setting_rows.specs.Head.{Head, heading_faults, no_settings, whole_fault, with_heading}
+use Rattle.setting_rows.specs.Keys.{key_of}
+use Rattle.setting_rows.specs.declared.setting.Known.TheVariants as known
 use Rattle.scenario_generator.specs.Rows.{set_rows}
 use Rattle.scenario_generator.specs.Words.{word}
-use Rattle.scenario_generator.proofs.Fields.{decimal_plain, number-decimal}
-use Rattle.scenario_generator.proofs.Passing.{Keeps, between}
+use Rattle.row_reader.proofs.RowNumberFacts.{between}
+use Rattle.row_reader.proofs.NumberTexts.{decimal_plain, number-decimal}
+use Rattle.scenario_generator.proofs.Passing.{Keeps}
 
 -- the defaults but for these counts of stations and channels
 abbrev fields_of : ℕ → ℕ → Fields
@@ -46,11 +47,11 @@ accepted_of (suc (suc (suc (suc more)))) rest low high few = absurd (omega arith
 
 -- the settings of these rows
 abbrev pub set_head : List ℕ → ℕ → ℕ → Head
-set_head words stations ticks = fold with_heading no_settings (set_rows words stations ticks)
+set_head words stations ticks = fold (with_heading known.Scenario) no_settings (set_rows words stations ticks)
 
 module _ (words : List ℕ) (stations ticks : ℕ) (low : 2 ≤ stations) (high : stations ≤ 3) (some : 1000 ≤ ticks) (limit : ticks ≤ 20000000) where
-  pub settings_good : first_fault 1 (heading_faults no_settings (set_rows words stations ticks)) ≡ None
-  unfolding setting_of
+  pub settings_good : first_fault 1 (heading_faults known.Scenario no_settings (set_rows words stations ticks)) ≡ None
+  unfolding key_of
   settings_good =
       let channels : 5 + word words 1 % 8 ≤ 12 = omega arith in
       rw (
@@ -64,14 +65,14 @@ module _ (words : List ℕ) (stations ticks : ℕ) (low : 2 ≤ stations) (high 
       ) refl
 
   pub settings_keep : Keeps (set_head words stations ticks) stations
-  unfolding setting_of
+  unfolding key_of
   settings_keep = record {
     count = rw (number-decimal stations (omega arith), number-decimal (5 + word words 1 % 8) (omega arith), number-decimal 50 (omega arith), number-decimal ticks (omega arith)) refl;
     drift = rw (number-decimal stations (omega arith), number-decimal (5 + word words 1 % 8) (omega arith), number-decimal 50 (omega arith), number-decimal ticks (omega arith)) refl;
   }
 
-  pub settings_whole : whole_fault (set_head words stations ticks) ≡ None
-  unfolding setting_of
+  pub settings_whole : whole_fault known.Scenario (set_head words stations ticks) ≡ None
+  unfolding key_of
   settings_whole =
       rw (
         number-decimal stations (omega arith),

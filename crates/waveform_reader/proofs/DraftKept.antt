@@ -13,12 +13,14 @@ use Rattle.ld_base.specs.declared.reason.Reason.{Reason}
 use Rattle.ld_base.specs.declared.reason.Reason.TheVariants as reason
 use Rattle.row_reader.specs.Rows.{Row}
 use Rattle.waveform_reader.specs.Draft.{Draft, is_astray, is_out_of_order, is_too_many, no_records, record_fault, row_fault, row_says, said_fault, with_record, with_row, with_said}
-use Rattle.waveform_reader.specs.Head.{name_of, set_fault}
-use Rattle.waveform_reader.specs.Names.{is_remark, is_set}
+use Rattle.row_reader.specs.RowFields.{name_of}
+use Rattle.setting_rows.specs.Head.{set_fault}
+use Rattle.setting_rows.specs.Keys.{is_remark, is_set}
+use Rattle.setting_rows.specs.declared.setting.Known.TheVariants as known
 use Rattle.waveform_reader.specs.Scenario.{rates_of}
 use Rattle.waveform_reader.specs.Sound.{IsDraft, IsRating, IsSaid, IsStart}
 use Rattle.waveform_reader.specs.declared.record.Rating.{Rating}
-use Rattle.waveform_reader.specs.declared.setting.Setting.{Setting}
+use Rattle.setting_rows.specs.declared.setting.Setting.{Setting}
 use Rattle.waveform_reader.specs.declared.record.Record.{Record}
 use Rattle.waveform_reader.specs.declared.record.Record.TheVariants as entry
 use Rattle.waveform_reader.proofs.PlanKept.{nothing_planned, with-rule, with-shape}
@@ -148,7 +150,7 @@ pub IsDraft-row : (given : List Setting) (f : Fields) (draft : Draft) (row : Row
 IsDraft-row given f draft row kept good = by (is_set (name_of row)) (is_remark (name_of row)) (row_says f.drift row) refl good
   where
     by : (set remark : Bool) (says : Result Record Reason) → row_says f.drift row ≡ says
-        → (if set then Some (unwrap_or (set_fault given row) reason.Late) else if remark then None else said_fault f.stations draft says) ≡ None
+        → (if set then Some (unwrap_or (set_fault known.Scenario given row) reason.Late) else if remark then None else said_fault f.stations draft says) ≡ None
         → IsDraft f (if remark then draft else with_said draft says)
     by true remark says e found = cc
     by false true says e found = kept

@@ -3,7 +3,6 @@ pub mod ClockFacts
 pub mod ColumnFacts
 pub mod DraftFacts
 pub mod DraftKept
-pub mod FieldFacts
 pub mod PlanKept
 pub mod ReadFacts
 pub mod ReadingFacts

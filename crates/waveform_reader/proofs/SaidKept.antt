@@ -10,7 +10,7 @@ use Rattle.row_reader.specs.RowNumbers.{number_at, numbers_of}
 use Rattle.row_reader.specs.Rows.{Row}
 use Rattle.waveform_reader.specs.Columns.{are_between, columns_of}
 use Rattle.waveform_reader.specs.Draft.{amplitudes_of, is_delay, kind_says, natural_at, numbers_say, record_of, row_says, rule_of, steps_of}
-use Rattle.waveform_reader.specs.Head.{name_of}
+use Rattle.row_reader.specs.RowFields.{name_of}
 use Rattle.waveform_reader.specs.Names.{kind_of}
 use Rattle.waveform_reader.specs.Sound.{IsAct, IsAmplitude, IsSaid, IsWave}
 use Rattle.waveform_reader.specs.declared.column.Column.{Column}

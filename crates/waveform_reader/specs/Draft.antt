@@ -10,15 +10,18 @@ use Rattle.ld_base.specs.declared.rule.Rule.{Rule}
 use Rattle.row_reader.specs.RowNumbers.{number_at, numbers_of}
 use Rattle.row_reader.specs.Rows.{Row}
 use Rattle.waveform_reader.specs.Columns.{are_between, columns_of}
-use Rattle.waveform_reader.specs.Head.{name_of, set_fault}
-use Rattle.waveform_reader.specs.Names.{is_remark, is_set, kind_of}
+use Rattle.row_reader.specs.RowFields.{name_of}
+use Rattle.setting_rows.specs.Head.{set_fault}
+use Rattle.setting_rows.specs.Keys.{is_remark, is_set}
+use Rattle.setting_rows.specs.declared.setting.Known.TheVariants as known
+use Rattle.setting_rows.specs.declared.setting.Setting.{Setting}
+use Rattle.waveform_reader.specs.Names.{kind_of}
 use Rattle.waveform_reader.specs.declared.kind.Kind.{Kind}
 use Rattle.waveform_reader.specs.declared.kind.Kind.TheVariants as kind
 use Rattle.waveform_reader.specs.declared.record.Record.{Record}
 use Rattle.waveform_reader.specs.declared.record.Record.TheVariants as entry
 use Rattle.waveform_reader.specs.declared.record.Rating.{Rating}
 use Rattle.waveform_reader.specs.declared.record.Start.{Start}
-use Rattle.waveform_reader.specs.declared.setting.Setting.{Setting}
 use Rattle.waveform_reader.specs.declared.shape.Shape.{Shape}
 use Rattle.waveform_reader.specs.declared.shape.Shape.TheVariants as shape
 use Rattle.waveform_reader.specs.declared.shape.ShapeFrom.{ShapeFrom}
@@ -165,7 +168,7 @@ said_fault stations draft (Ok said) = record_fault stations draft said
 -- the least rule that a row behind the settings breaks: a `set` comes too late, if nothing else is wrong with it
 abbrev pub row_fault : List Setting → Fields → Draft → Row → Option Reason
 row_fault given f draft row =
-    if is_set (name_of row) then Some (unwrap_or (set_fault given row) reason.Late)
+    if is_set (name_of row) then Some (unwrap_or (set_fault known.Scenario given row) reason.Late)
     else if is_remark (name_of row) then None
     else said_fault f.stations draft (row_says f.drift row)
 

@@ -1,7 +1,5 @@
-pub mod Ahead
 pub mod Columns
 pub mod Draft
-pub mod Head
 pub mod Names
 pub mod Progress
 pub mod Refusals

@@ -1,26 +1,15 @@
--- Why a row isn't taken in, and why a text is no scenario.
-use Rattle.std.specs.Prelude.{◌≡◌, ℕ, Option, Some, Result, Err}
-use Rattle.ld_base.specs.declared.reason.Reason.{Reason}
+-- Why a text is no scenario.
+use Rattle.std.specs.Prelude.{◌≡◌, Result, Err}
 use Rattle.row_reader.specs.declared.fault.Fault.{Fault}
+use Rattle.setting_rows.specs.declared.refusal.Misread.{Misread}
+use Rattle.setting_rows.specs.declared.refusal.Misread.TheVariants as misread
 use Rattle.waveform_reader.specs.declared.reading.ReadScenario.{ReadScenario}
 use Rattle.waveform_reader.specs.declared.reading.ReadScenario.TheVariants as answer
-use Rattle.waveform_reader.specs.declared.refusal.Refusal.{Refusal}
-use Rattle.waveform_reader.specs.declared.refusal.Refusal.TheVariants.{NoMemory, Breaks}
 
--- a row that breaks a rule is refused by it; memory may be refused at any time
-abbrev pub RefusedBy : Option Reason → Refusal → Type 0
-RefusedBy fault NoMemory = Unit {0}
-RefusedBy fault (Breaks reason) = fault ≡ Some reason
-
--- the answer that tells why the row of a number was refused
-abbrev pub told : ℕ → Refusal → ReadScenario
-told row NoMemory = answer.NoMemory
-told row (Breaks reason) = answer.Bad row reason
-
--- an answer tells a fault; memory may be refused at any time
-abbrev pub Tells : Option Fault → ReadScenario → Type 0
-Tells fault answer.NoMemory = Unit {0}
-Tells fault (answer.Bad row reason) = fault ≡ Some (record { row = row; reason = reason })
+-- the answer to a text that isn't read
+abbrev pub answer_of : Misread → ReadScenario
+answer_of misread.NoMemory = answer.NoMemory
+answer_of (misread.Bad row reason) = answer.Bad row reason
 
 -- an answer tells why some rows are no scenario; memory may be refused at any time
 abbrev pub Refuses : {T : Type 0} → Result T Fault → ReadScenario → Type 0

@@ -1,9 +1,7 @@
 -- A scenario, and the scenario of a text. (This project's own.)
-use Rattle.std.specs.Prelude.{◌==◌, ℕ, ◌+◌, not, if◌then◌else◌, List, [], ◌∷◌, map, fold, filter, find, drop, length, Option, Some, None, option_map, unwrap_or, Result}
-use Rattle.std.specs.List.{before_first}
+use Rattle.std.specs.Prelude.{◌==◌, ℕ, ◌+◌, List, [], ◌∷◌, map, fold, filter, find, length, Option, option_map, unwrap_or, Result}
 use Rattle.std.specs.Option.{option_or}
 use Rattle.ld_base.specs.declared.fields.Fields.{Fields}
-use Rattle.ld_base.specs.declared.reason.Reason.TheVariants as reason
 use Rattle.ld_base.specs.declared.rule.Rule.{Rule}
 use Rattle.pingpong.specs.Clock.{Course, phase}
 use Rattle.pingpong.specs.declared.clock.RateFrom.{RateFrom}
@@ -11,7 +9,8 @@ use Rattle.row_reader.specs.Faults.{first_fault, unless}
 use Rattle.row_reader.specs.Rows.{Row}
 use Rattle.row_reader.specs.declared.fault.Fault.{Fault}
 use Rattle.waveform_reader.specs.Draft.{Draft, no_records, row_faults, with_row}
-use Rattle.waveform_reader.specs.Head.{Head, heading_faults, is_complete, is_heading, no_settings, with_heading}
+use Rattle.setting_rows.specs.Head.{Head, body_rows, head_of, head_rows, heading_faults, no_settings, whole_fault}
+use Rattle.setting_rows.specs.declared.setting.Known.TheVariants as known
 use Rattle.waveform_reader.specs.declared.record.Rating.{Rating}
 use Rattle.waveform_reader.specs.declared.record.Start.{Start}
 use Rattle.waveform_reader.specs.declared.shape.ShapeFrom.{ShapeFrom}
@@ -40,22 +39,6 @@ rates_of rates station = map (λ rating. rating.rate) (filter (λ rating. rating
 abbrev pub course_of : Draft → ℕ → Course
 course_of draft station = record { start = start_of draft.starts station; rates = rates_of draft.rates station }
 
--- the rows of the settings: those in front of the first that is neither a `set` nor a remark
-abbrev pub head_rows : List Row → List Row
-head_rows rows = before_first (λ row. not (is_heading row)) rows
-
--- the rows behind the settings
-abbrev pub body_rows : List Row → List Row
-body_rows rows = drop (length (head_rows rows)) rows
-
--- the settings of a scenario's rows
-abbrev pub head_of : List Row → Head
-head_of rows = fold with_heading no_settings (head_rows rows)
-
--- what is wrong with the settings as a whole, which row 0 stands for
-abbrev pub whole_fault : Head → Option Fault
-whole_fault head = if is_complete head then None else Some (record { row = 0; reason = reason.Settings })
-
 -- the first fault behind the settings, where `row` is the number of the first of these rows
 abbrev pub body_fault : Head → ℕ → List Row → Option Fault
 body_fault head row rows = first_fault row (row_faults head.given head.fields no_records rows)
@@ -63,8 +46,8 @@ body_fault head row rows = first_fault row (row_faults head.given head.fields no
 -- the first fault of a scenario's rows: the settings are closed before the first row behind them is looked at
 abbrev pub fault_of : List Row → Option Fault
 fault_of rows =
-    option_or (first_fault 1 (heading_faults no_settings (head_rows rows)))
-    (option_or (whole_fault (head_of rows)) (body_fault (head_of rows) (length (head_rows rows) + 1) (body_rows rows)))
+    option_or (first_fault 1 (heading_faults known.Scenario no_settings (head_rows rows)))
+    (option_or (whole_fault known.Scenario (head_of known.Scenario rows)) (body_fault (head_of known.Scenario rows) (length (head_rows rows) + 1) (body_rows rows)))
 
 -- the records of the rows behind the settings
 abbrev pub draft_of : Head → List Row → Draft
@@ -82,4 +65,4 @@ setup_of f end draft = record {
 
 -- the scenario of some rows, or their first fault
 abbrev pub scenario_of : List Row → Result Setup Fault
-scenario_of rows = unless (fault_of rows) (setup_of (head_of rows).fields (head_of rows).end (draft_of (head_of rows) (body_rows rows)))
+scenario_of rows = unless (fault_of rows) (setup_of (head_of known.Scenario rows).fields (head_of known.Scenario rows).end (draft_of (head_of known.Scenario rows) (body_rows rows)))

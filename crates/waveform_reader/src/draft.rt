@@ -5,22 +5,20 @@ ghost use Rattle.std.specs.List.{list_any};
 ghost use Rattle.csv.specs.Records.{fields_of};
 ghost use Rattle.ld_base.specs.Settings.{IsWithin, setting_fault};
 ghost use Rattle.waveform_reader.specs.Draft.{is_astray, is_delay, is_failure, is_later_delay, is_one_line, is_out_of_order, is_repeat, is_rule_too_many, is_too_many, no_records, record_fault, row_fault, row_says, with_record, with_row};
-ghost use Rattle.waveform_reader.specs.Refusals.{RefusedBy};
+ghost use Rattle.setting_rows.specs.Refusals.{RefusedBy};
 ghost use Rattle.waveform_reader.specs.Scenario.{setup_of};
 ghost use Rattle.waveform_reader.specs.Sound.{IsDraft, IsSetup};
 
 use crate::clocks::scenario_of;
 use crate::column::are_between;
-use crate::fields::field;
-use crate::head::Head;
 use crate::kind::Kind;
 use crate::record::{Rating, Record, Start, record_of};
-use crate::refusal::Refusal;
 use crate::scenario::Scenario;
 use crate::shape::ShapeFrom;
 use csv::ByteRecord;
 use ld_base::{Act, Fields, NoMemory, Reason, Rule, Settings, Station};
-use row_reader::numbers_of;
+use row_reader::{field, numbers_of};
+use setting_rows::{Head, Known, Refusal};
 use std::alloc::Global;
 use std::marker::Model;
 
@@ -89,7 +87,7 @@ impl Draft {
     {
         let name = field(row, 0);
         if name == b"set".as_slice() {
-            let reason = head.fault(row).unwrap_or(Reason::Late);
+            let reason = head.fault(Known::Scenario, row).unwrap_or(Reason::Late);
             return Err(Refusal::Breaks(reason));
         }
         if name == b"#".as_slice() {

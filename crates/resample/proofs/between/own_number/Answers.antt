@@ -1,6 +1,6 @@
 use Rattle.std.proofs.Common.{◌≡◌, w64, to_z, of_z, arith, rules}
 use Rattle.resample.specs.Between.{own_number}
-use Rattle.resample.proofs.Instants.{IsBetween-own_number}
+use Rattle.resample.proofs.OwnNumbers.{IsBetween-own_number}
 use Rattle.resample.proofs.between.own_number.Goals as goal
 
 pub returns-clause-between : goal.returns-clause-between

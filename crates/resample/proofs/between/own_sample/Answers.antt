@@ -1,7 +1,7 @@
 use Rattle.std.proofs.Common.{FitsSigned, w64, ap, sym, ◌∙◌, arith, rules}
 use Rattle.std.proofs.lemmas.Int.{to_z-of_z}
 use Rattle.resample.specs.Between.{sample_number}
-use Rattle.resample.proofs.Instants.{IsBetween-own_number, sample_number-read, sample_number-some}
+use Rattle.resample.proofs.OwnNumbers.{IsBetween-own_number, sample_number-read, sample_number-some}
 use Rattle.resample.proofs.between.own_sample.Goals as goal
 
 pub returns-clause-number : goal.returns-clause-number

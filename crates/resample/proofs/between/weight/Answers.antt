@@ -1,6 +1,6 @@
 use Rattle.std.proofs.Common.{arith}
 use Rattle.std.proofs.lemmas.Int.{ints}
-use Rattle.resample.proofs.Instants.{weight-below, weight-short}
+use Rattle.resample.proofs.OwnNumbers.{weight-below, weight-short}
 use Rattle.resample.proofs.between.weight.Goals as goal
 
 pub overflow_cast-result-3 : goal.overflow_cast-result-3

@@ -1,4 +1,4 @@
-use Rattle.resample.proofs.Instants.{IsBetween-own_number, IsBetween-alone}
+use Rattle.resample.proofs.OwnNumbers.{IsBetween-own_number, IsBetween-alone}
 use Rattle.resample.proofs.laws.the_own_number_is_the_one.Goals as goal
 
 pub returns-clause-is : goal.returns-clause-is

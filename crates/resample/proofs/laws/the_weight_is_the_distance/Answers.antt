@@ -1,4 +1,4 @@
-use Rattle.resample.proofs.Instants.{weight-distance, weight-below}
+use Rattle.resample.proofs.OwnNumbers.{weight-distance, weight-below}
 use Rattle.resample.proofs.laws.the_weight_is_the_distance.Goals as goal
 
 pub returns-clause-is : goal.returns-clause-is

@@ -4,7 +4,7 @@ use Rattle.row_reader.specs.Rows.{Row, rows_of}
 use Rattle.waveform_reader.specs.Scenario.{scenario_of}
 use Rattle.scenario_generator.specs.Rows.{remark_row, scenario_rows, scenario_text, stations_of}
 use Rattle.scenario_generator.specs.Words.{words_of}
-use Rattle.scenario_generator.proofs.Fields.{IsLong}
+use Rattle.row_reader.proofs.NumberTexts.{IsLong}
 use Rattle.scenario_generator.proofs.Scenarios.{scenario, setup_by, text_of-remark}
 use Rattle.scenario_generator.proofs.laws.every_number_gives_a_scenario.Goals as goal
 

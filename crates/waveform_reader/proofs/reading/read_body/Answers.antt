@@ -1,10 +1,11 @@
 use Rattle.std.proofs.Common.{sym}
-use Rattle.waveform_reader.proofs.ReadingFacts.{IsGoing-bad, IsGoing-end, IsGoing-more, Tells-told}
+use Rattle.setting_rows.proofs.HeadReading.{Tells-misread}
+use Rattle.waveform_reader.proofs.ReadingFacts.{IsGoing-bad, IsGoing-end, IsGoing-more}
 use Rattle.waveform_reader.proofs.reading.read_body.Goals as goal
 
 pub returns-in-Err-clause-refused : goal.returns-in-Err-clause-refused
 returns-in-Err-clause-refused c =
-    rw (c.told.ensures, c.number.ensures) (Tells-told _ _ _ _ c.in-Err.ensures.refused
+    rw (c.at.ensures, c.number.ensures) (Tells-misread _ _ _ _ c.in-Err.ensures.refused
     (λ reason bad. IsGoing-bad _ _ c.records.draft c.records.rows _ reason (sym c.in-Some.ensures) (rw c.requires.same at bad) c.records.invariant))
 
 pub returns-clause-read : goal.returns-clause-read

@@ -67,7 +67,7 @@ digits_plain (b ∷ rest) all =
 pub decimal_plain : (n : ℕ) → n < 10 ^ 64 → list_all is_plain (decimal n) ≡ true
 decimal_plain n long = digits_plain (decimal n) (told.from (decimal n) (decimal_is_IsNumeral_wide n long).0.1)
 
-signed_plain : (z : ℤ) → IsLong z → list_all is_plain (signed_decimal z) ≡ true
+pub signed_plain : (z : ℤ) → IsLong z → list_all is_plain (signed_decimal z) ≡ true
 signed_plain (pos n) long = decimal_plain n long
 signed_plain (negsuc n) long = decimal_plain (suc n) long
 

@@ -3,7 +3,7 @@ use Rattle.std.proofs.Common.{◌≡◌, refl, ℕ, zero, suc, [], ◌∷◌}
 use Rattle.std.specs.Prelude.{unwrap_or}
 use Rattle.csv.specs.Records.{field_at}
 use Rattle.row_reader.specs.Rows.{Row}
-use Rattle.waveform_reader.specs.Head.{field_of}
+use Rattle.row_reader.specs.RowFields.{field_of}
 
 -- the field at a place, or an empty one
 pub field_at_or : (fields : Row) (place : ℕ) → field_of fields place ≡ unwrap_or (field_at fields place) []

@@ -1,19 +1,21 @@
-//! The settings of a scenario, as its `set` records give them.
+//! The settings of a text, as its `set` records give them.
 
 ghost use Rattle.std.specs.Prelude.{◌≡◌, IfErr, IfSome, IsNone, MatchResult, None, OnOk, Some, false, true};
 ghost use Rattle.csv.specs.Records.{fields_of};
 ghost use Rattle.ld_base.specs.Settings.{IsWithin, setting_fault};
 ghost use Rattle.row_reader.specs.Numbers.{number};
-ghost use Rattle.waveform_reader.specs.Head.{Takes, accepts, field_of, has_required, heading_fault, is_complete, is_given, is_heading, key_accepts, no_settings, set_fault, with_heading, with_key, with_setting};
-ghost use Rattle.waveform_reader.specs.Names.{is_set, setting_of};
-ghost use Rattle.waveform_reader.specs.Refusals.{RefusedBy};
+ghost use Rattle.row_reader.specs.RowFields.{field_of, name_of};
+ghost use Rattle.setting_rows.specs.Head.{Takes, accepts, has_end, has_required, heading_fault, is_complete, is_given, is_heading, key_accepts, no_settings, set_fault, with_heading, with_key, with_setting};
+ghost use Rattle.setting_rows.specs.Keys.{is_set, setting_of};
+ghost use Rattle.setting_rows.specs.Refusals.{RefusedBy};
+ghost use Rattle.setting_rows.specs.declared.setting.Known.TheVariants as text;
+ghost use Rattle.setting_rows.specs.declared.setting.Setting.TheVariants as setting;
 
-use crate::fields::field;
 use crate::refusal::Refusal;
-use crate::setting::Setting;
+use crate::setting::{Known, Setting};
 use csv::ByteRecord;
 use ld_base::{Fields, Key, Reason, Settings};
-use row_reader::number;
+use row_reader::{field, number};
 use std::alloc::Global;
 use std::marker::Model;
 
@@ -22,14 +24,14 @@ const FIELDS: usize = 3;
 
 /// The settings that are set so far.
 #[derive(Drop)]
-pub(crate) struct Head {
+pub struct Head {
     given: Vec<Setting>,
     fields: Fields,
     end: u64,
 }
 
 impl Model for Head {
-    ghost use Rattle.waveform_reader.specs.Head as spec;
+    ghost use Rattle.setting_rows.specs.Head as spec;
 
     ghost Value = { spec.Head };
 
@@ -54,7 +56,7 @@ pub(crate) fn is_heading(row: &ByteRecord) -> bool
 }
 
 impl Head {
-    /// No settings.
+    /// No setting is set.
     pub(crate) fn new(alloc: Global) -> Head
         ensures { result ≡ no_settings }
     {
@@ -65,25 +67,25 @@ impl Head {
         }
     }
 
-    /// Takes in a row that stands among the settings.
-    pub(crate) fn take(&mut self, row: &ByteRecord) -> Result<(), Refusal>
-        ensures taken { OnOk result ((heading_fault self.old (fields_of row.now) ≡ None) × (self.new ≡ with_heading self.old (fields_of row.now))) }
-        ensures refused { IfErr result (RefusedBy (heading_fault self.old (fields_of row.now))) }
+    /// Takes in a row that stands among the settings. After a refusal nothing is said of the settings.
+    pub(crate) fn take(&mut self, known: Known, row: &ByteRecord) -> Result<(), Refusal>
+        ensures taken { OnOk result ((heading_fault known self.old (fields_of row.now) ≡ None) × (self.new ≡ with_heading known self.old (fields_of row.now))) }
+        ensures refused { IfErr result (RefusedBy (heading_fault known self.old (fields_of row.now))) }
     {
         if field(row, 0) != b"set".as_slice() {
             return Ok(());
         }
-        match given_in(&self.given, row) {
+        match given_in(known, &self.given, row) {
             Ok(given) => self.set(given),
             Err(reason) => Err(Refusal::Breaks(reason)),
         }
     }
 
-    /// The least rule that a `set` breaks beside these settings.
-    pub(crate) fn fault(&self, row: &ByteRecord) -> Option<Reason>
-        ensures { result ≡ set_fault self.now.given (fields_of row.now) }
+    /// The least rule that a `set` breaks beside these settings. None where it breaks none.
+    pub fn fault(&self, known: Known, row: &ByteRecord) -> Option<Reason>
+        ensures { result ≡ set_fault known self.now.given (fields_of row.now) }
     {
-        given_in(&self.given, row).err()
+        given_in(known, &self.given, row).err()
     }
 
     // Sets one setting more.
@@ -102,27 +104,42 @@ impl Head {
         Ok(())
     }
 
-    /// The settings as a whole and the tick at which the scenario ends. None where one that is required isn't set, or they are
-    /// refused.
-    pub(crate) fn close(&self) -> Option<(Settings, u64)>
-        ensures closed { IfSome result (λ whole. (is_complete self.now ≡ true) × (whole.0 ≡ self.now.fields) × (whole.1 ≡ self.now.end)) }
-        ensures end { IfSome result (λ whole. IsWithin (1, 20000000) whole.1) }
-        ensures open { IsNone result → is_complete self.now ≡ false }
+    /// The settings as a whole. None where one that is required isn't set, or they are refused.
+    pub fn close(&self, known: Known) -> Option<Settings>
+        ensures closed { IfSome result (λ settings. (is_complete known self.now ≡ true) × (settings ≡ self.now.fields)) }
+        ensures end { IfSome result (λ settings. known ≡ text.Scenario → IsWithin (1, 20000000) self.now.end) }
+        ensures open { IsNone result → is_complete known self.now ≡ false }
     {
-        if !has_required(&self.given) {
+        if !has_required(known, &self.given) {
             return None;
         }
-        let settings = Settings::new(self.fields).ok()?;
-        Some((settings, self.end))
+        Settings::new(self.fields).ok()
+    }
+
+    /// The true tick at which a scenario ends, 0 where none is set.
+    pub fn end(&self) -> u64
+        ensures { result ≡ self.now.end }
+    {
+        self.end
     }
 }
 
-fn has_required(given: &[Setting]) -> bool
-    ensures { result ≡ has_required given.now }
+fn has_required(known: Known, given: &[Setting]) -> bool
+    ensures { result ≡ has_required known given.now }
 {
     is_given(given, Setting::Line(Key::Stations))
         && is_given(given, Setting::Line(Key::Channels))
-        && is_given(given, Setting::End)
+        && has_end(known, given)
+}
+
+// Whether the end is set, where a text needs one.
+fn has_end(known: Known, given: &[Setting]) -> bool
+    ensures { result ≡ has_end known given.now }
+{
+    match known {
+        Known::Scenario => is_given(given, Setting::End),
+        Known::Recording => true,
+    }
 }
 
 fn is_given(given: &[Setting], setting: Setting) -> bool
@@ -132,8 +149,8 @@ fn is_given(given: &[Setting], setting: Setting) -> bool
 }
 
 // The setting of a `set` and its value, or the least rule that it breaks beside those that are set.
-fn given_in(given: &[Setting], row: &ByteRecord) -> Result<Given, Reason>
-    ensures { MatchResult result (λ set. Takes given.now (fields_of row.now) set.setting set.value) (λ reason. set_fault given.now (fields_of row.now) ≡ Some reason) }
+fn given_in(known: Known, given: &[Setting], row: &ByteRecord) -> Result<Given, Reason>
+    ensures { MatchResult result (λ set. Takes known given.now (fields_of row.now) set.setting set.value) (λ reason. set_fault known given.now (fields_of row.now) ≡ Some reason) }
 {
     if row.len() != FIELDS {
         return Err(Reason::Fields);
@@ -141,7 +158,7 @@ fn given_in(given: &[Setting], row: &ByteRecord) -> Result<Given, Reason>
     let Some(value) = number(field(row, 2)) else {
         return Err(Reason::Number);
     };
-    let Some(setting) = Setting::named(field(row, 1)) else {
+    let Some(setting) = Setting::named(known, field(row, 1)) else {
         return Err(Reason::Key);
     };
     if !setting.accepts(value) {

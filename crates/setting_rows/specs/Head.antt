@@ -1,6 +1,6 @@
--- The settings of a scenario: what its `set` records say, and what is wrong with them. (This project's own.)
-use Rattle.std.specs.Prelude.{◌≡◌, ◌==◌, true, ℕ, Bool, ◌&&◌, ◌||◌, not, int_le, if◌then◌else◌, ℤ, pos, unsigned_abs, List, [], ◌∷◌, ◌++◌, length, Option, Some, None, is_none, slice_index_or}
-use Rattle.std.specs.List.{list_any}
+-- The settings in front of a text's records: what the rows say there, and what is wrong with them. (This project's own.)
+use Rattle.std.specs.Prelude.{◌≡◌, ◌==◌, true, ℕ, Bool, ◌&&◌, ◌||◌, not, int_le, if◌then◌else◌, ℤ, pos, unsigned_abs, List, [], ◌∷◌, ◌++◌, length, drop, fold, Option, Some, None, is_none}
+use Rattle.std.specs.List.{before_first, list_any}
 use Rattle.ld_base.specs.Settings.{IsWithin, is_cycle, is_within, range_of, setting_fault, usual}
 use Rattle.ld_base.specs.declared.fields.Fields.{Fields}
 use Rattle.ld_base.specs.declared.fields.Key.{Key}
@@ -10,9 +10,13 @@ use Rattle.ld_base.specs.declared.reason.Reason.TheVariants as reason
 use Rattle.row_reader.specs.Numbers.{number}
 use Rattle.row_reader.specs.RowNumbers.{is_between}
 use Rattle.row_reader.specs.Rows.{Row}
-use Rattle.waveform_reader.specs.Names.{is_remark, is_set, setting_of}
-use Rattle.waveform_reader.specs.declared.setting.Setting.{Setting}
-use Rattle.waveform_reader.specs.declared.setting.Setting.TheVariants as setting
+use Rattle.row_reader.specs.RowFields.{field_of, name_of}
+use Rattle.row_reader.specs.declared.fault.Fault.{Fault}
+use Rattle.setting_rows.specs.Keys.{is_remark, is_set, key_place, setting_of}
+use Rattle.setting_rows.specs.declared.setting.Known.{Known}
+use Rattle.setting_rows.specs.declared.setting.Known.TheVariants as known
+use Rattle.setting_rows.specs.declared.setting.Setting.{Setting}
+use Rattle.setting_rows.specs.declared.setting.Setting.TheVariants as setting
 
 -- the settings that are set so far, and their values beside the defaults
 pub record Head : Type 0 where
@@ -23,27 +27,6 @@ pub record Head : Type 0 where
 -- no setting is set
 abbrev pub no_settings : Head
 no_settings = record { given = []; fields = usual 0 0; end = 0 }
-
--- the place of a key in the table of settings
-abbrev pub key_place : Key → ℕ
-key_place key.Stations = 0
-key_place key.Channels = 1
-key_place key.Spacing = 2
-key_place key.Cycle = 3
-key_place key.Drift = 4
-key_place key.Slow = 5
-key_place key.Age = 6
-key_place key.Limit = 7
-key_place key.Silent = 8
-key_place key.Count = 9
-key_place key.Pickup = 10
-key_place key.Rn = 11
-key_place key.Rd = 12
-key_place key.P = 13
-key_place key.Q = 14
-key_place key.WordA = 15
-key_place key.WordB = 16
-key_place key.Misses = 17
 
 -- the place of a setting, the end behind all keys
 abbrev pub place_of : Setting → ℕ
@@ -91,14 +74,6 @@ abbrev pub with_setting : Head → Setting → ℤ → Head
 with_setting head (setting.Line k) v = record { given = head.given ++ setting.Line k ∷ []; fields = with_key head.fields k v; end = head.end }
 with_setting head setting.End v = record { given = head.given ++ setting.End ∷ []; fields = head.fields; end = unsigned_abs v }
 
--- the field at a place of a row
-abbrev pub field_of : Row → ℕ → List ℕ
-field_of row place = slice_index_or row place []
-
--- the first field of a row
-abbrev pub name_of : Row → List ℕ
-name_of row = field_of row 0
-
 -- the least rule that a known setting breaks with its value
 abbrev pub known_fault : List Setting → Setting → ℤ → Option Reason
 known_fault given s value =
@@ -117,16 +92,16 @@ key_fault given s None = Some reason.Number
 key_fault given s (Some value) = value_fault given s value
 
 -- the least rule that a `set` breaks
-abbrev pub set_fault : List Setting → Row → Option Reason
-set_fault given row = if not (length row == 3) then Some reason.Fields else key_fault given (setting_of (field_of row 1)) (number (field_of row 2))
+abbrev pub set_fault : Known → List Setting → Row → Option Reason
+set_fault known given row = if not (length row == 3) then Some reason.Fields else key_fault given (setting_of known (field_of row 1)) (number (field_of row 2))
 
 -- whether a row stands among the settings: a `set` or a remark
 abbrev pub is_heading : Row → Bool
 is_heading row = is_set (name_of row) || is_remark (name_of row)
 
 -- the least rule that a row among the settings breaks
-abbrev pub heading_fault : Head → Row → Option Reason
-heading_fault head row = if is_set (name_of row) then set_fault head.given row else None
+abbrev pub heading_fault : Known → Head → Row → Option Reason
+heading_fault known head row = if is_set (name_of row) then set_fault known head.given row else None
 
 -- the settings with what a key and its value add
 abbrev pub with_value : Head → Option Setting → Option ℤ → Head
@@ -134,29 +109,50 @@ with_value head (Some s) (Some value) = with_setting head s value
 with_value head s value = head
 
 -- the settings with what a row adds
-abbrev pub with_heading : Head → Row → Head
-with_heading head row = if is_set (name_of row) then with_value head (setting_of (field_of row 1)) (number (field_of row 2)) else head
+abbrev pub with_heading : Known → Head → Row → Head
+with_heading known head row = if is_set (name_of row) then with_value head (setting_of known (field_of row 1)) (number (field_of row 2)) else head
 
 -- what each row among the settings breaks
-abbrev pub heading_faults : Head → List Row → List (Option Reason)
-heading_faults head [] = []
-heading_faults head (row ∷ rows) = heading_fault head row ∷ heading_faults (with_heading head row) rows
+abbrev pub heading_faults : Known → Head → List Row → List (Option Reason)
+heading_faults known head [] = []
+heading_faults known head (row ∷ rows) = heading_fault known head row ∷ heading_faults known (with_heading known head row) rows
+
+-- the rows of the settings: those in front of the first that is neither a `set` nor a remark
+abbrev pub head_rows : List Row → List Row
+head_rows rows = before_first (λ row. not (is_heading row)) rows
+
+-- the rows behind the settings
+abbrev pub body_rows : List Row → List Row
+body_rows rows = drop (length (head_rows rows)) rows
+
+-- the settings of a text's rows
+abbrev pub head_of : Known → List Row → Head
+head_of known rows = fold (with_heading known) no_settings (head_rows rows)
+
+-- whether the end is set, where a text needs one
+abbrev pub has_end : Known → List Setting → Bool
+has_end known.Scenario given = is_given given setting.End
+has_end known.Recording given = true
 
 -- whether the settings that have no default are set
-abbrev pub has_required : List Setting → Bool
-has_required given = is_given given (setting.Line key.Stations) && is_given given (setting.Line key.Channels) && is_given given setting.End
+abbrev pub has_required : Known → List Setting → Bool
+has_required known given = is_given given (setting.Line key.Stations) && is_given given (setting.Line key.Channels) && has_end known given
 
 -- whether the settings that must be set are set, and all are accepted
-abbrev pub is_complete : Head → Bool
-is_complete head = has_required head.given && is_none (setting_fault head.fields)
+abbrev pub is_complete : Known → Head → Bool
+is_complete known head = has_required known head.given && is_none (setting_fault head.fields)
+
+-- what is wrong with the settings as a whole, which row 0 stands for
+abbrev pub whole_fault : Known → Head → Option Fault
+whole_fault known head = if is_complete known head then None else Some (record { row = 0; reason = reason.Settings })
 
 -- where the end is set, it lies in its range
 abbrev pub HasEnd : Head → Type 0
 HasEnd head = is_given head.given setting.End ≡ true → IsWithin (1, 20000000) head.end
 
 -- a `set` that breaks no rule, and what it sets
-pub record Takes (given : List Setting) (row : Row) (s : Setting) (value : ℤ) : Type 0 where
-  pub good : set_fault given row ≡ None
-  pub setting : setting_of (field_of row 1) ≡ Some s
+pub record Takes (known : Known) (given : List Setting) (row : Row) (s : Setting) (value : ℤ) : Type 0 where
+  pub good : set_fault known given row ≡ None
+  pub setting : setting_of known (field_of row 1) ≡ Some s
   pub number : number (field_of row 2) ≡ Some value
   pub accepted : accepts s value ≡ true

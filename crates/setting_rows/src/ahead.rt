@@ -3,8 +3,8 @@
 ghost use Rattle.std.specs.Prelude.{◌≡◌, ◌+◌, ◌<◌, IfOk, MatchOption, OnOk, [], drop, length, option_map, slice_get};
 ghost use Rattle.csv.specs.Records.{fields_of};
 ghost use Rattle.row_reader.specs.Rows.{rows_of};
-ghost use Rattle.waveform_reader.specs.Ahead.{IsNextHeading};
-ghost use Rattle.waveform_reader.specs.Scenario.{head_rows};
+ghost use Rattle.setting_rows.specs.Ahead.{IsNextHeading};
+ghost use Rattle.setting_rows.specs.Head.{head_rows};
 
 use crate::head::is_heading;
 use csv::ByteRecord;
@@ -15,7 +15,7 @@ use std::marker::Model;
 
 /// The rows of a text that are still ahead, each with its number.
 #[derive(Drop)]
-pub(crate) struct Ahead<'a> {
+pub struct Ahead<'a> {
     rows: Rows<'a>,
     row: ByteRecord,
     found: bool,
@@ -25,8 +25,8 @@ pub(crate) struct Ahead<'a> {
 impl<'a> Model for Ahead<'a> {
     ghost use Rattle.std.specs.Prelude.{◌+◌, ◌^◌, ◌<◌, length};
     ghost use Rattle.csv.specs.Records.{fields_of};
-    ghost use Rattle.waveform_reader.specs.Ahead.{left_of};
-    ghost use Rattle.waveform_reader.specs.Ahead as spec;
+    ghost use Rattle.setting_rows.specs.Ahead.{left_of};
+    ghost use Rattle.setting_rows.specs.Ahead as spec;
 
     ghost Value = { spec.Ahead };
 
@@ -36,8 +36,8 @@ impl<'a> Model for Ahead<'a> {
 }
 
 impl Ahead<'_> {
-    /// All rows of the text.
-    pub(crate) fn new(alloc: Global, text: &[u8]) -> Result<Ahead<'_>, NoMemory>
+    /// All rows of the text, none of them taken.
+    pub fn new(alloc: Global, text: &[u8]) -> Result<Ahead<'_>, NoMemory>
         ensures { IfOk result (λ ahead. ahead ≡ record { taken = 0; left = rows_of text.now }) }
     {
         let mut rows = Rows::new(alloc, text);
@@ -52,7 +52,7 @@ impl Ahead<'_> {
     }
 
     /// The next row, where there is one.
-    pub(crate) fn row(&self) -> Option<&ByteRecord>
+    pub fn row(&self) -> Option<&ByteRecord>
         ensures { option_map (λ row. fields_of row.now) result ≡ slice_get self.now.left 0 }
     {
         if self.found { Some(&self.row) } else { None }
@@ -67,15 +67,15 @@ impl Ahead<'_> {
     }
 
     /// The number of the next row, counted from 1.
-    pub(crate) fn number(&self) -> u64
+    pub fn number(&self) -> u64
         requires { 0 < length self.now.left }
         ensures { result ≡ self.now.taken + 1 }
     {
         self.taken + 1
     }
 
-    /// Takes the next row.
-    pub(crate) fn advance(&mut self) -> Result<(), NoMemory>
+    /// Takes the next row. After a refusal of memory nothing is said of the rows.
+    pub fn advance(&mut self) -> Result<(), NoMemory>
         requires { 0 < length self.old.left }
         ensures { OnOk result (self.new ≡ record { taken = self.old.taken + 1; left = drop 1 self.old.left }) }
     {

@@ -1,0 +1,3 @@
+pub mod HeadKept
+pub mod HeadReading
+pub mod WrittenFacts
