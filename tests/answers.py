@@ -8,7 +8,7 @@ import tempfile
 ROOT = os.path.dirname(os.path.dirname(os.path.abspath(__file__)))
 LINEDIFF = os.path.join(ROOT, "linediff")
 # The one line that the program itself says of words that are no command.
-USAGE = b"usage: linediff judge COUNT | frames N | bench | gen NUMBER TICKS\n"
+USAGE = b"usage: linediff judge COUNT | frames N | bench | gen NUMBER TICKS | record STATION\n"
 LARGEST = 16_777_216
 EXAMPLES = os.path.join(ROOT, "examples")
 sys.path.insert(0, EXAMPLES)

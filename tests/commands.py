@@ -11,6 +11,7 @@ def commands():
     yield "frames", ["frames", "5"], bytes_of("examples", "line.bin")
     yield "bench", ["bench"], SHORT
     yield "gen", ["gen", "7", "5000"], b""
+    yield "record", ["record", "2"], SHORT
 
 
 def names():

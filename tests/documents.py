@@ -76,6 +76,17 @@ def links():
         yield "%s links to what is there" % name, lost, []
 
 
+def is_seen(kind, *records):
+    """Whether a type has a model whose value is one of these records, where any is named."""
+    for folder, _, names in os.walk(os.path.join(ROOT, "crates")):
+        for name in names:
+            if name.endswith(".rt") and "/out" not in folder:
+                model = re.search(r"impl(?:<[^>]*>)? Model for %s\b.*?ghost Value = \{ (?:spec\.)?(\w+)" % kind, text_of(os.path.relpath(os.path.join(folder, name), ROOT)), re.S)
+                if model and (not records or model[1] in records):
+                    return True
+    return False
+
+
 def cases():
     found = {names_in(row[0])[0]: names_in(*row[2:]) for row in rows("docs/ARCHITECTURE.md", "Crates")}
     yield "ARCHITECTURE.md has the crates", list(found), list(crates())
@@ -87,6 +98,8 @@ def cases():
     yield "RULES.md names the files that are there", lost_files(text_of("docs/RULES.md")), []
     table = text_of("docs/ARCHITECTURE.md").split("\n## Where each definition stands\n")[1]
     yield "ARCHITECTURE.md names the files that are there", lost_files(table, "crates"), []
+    seen = [(kind, row) for row in rows("docs/WORDS.md", "Types and what clauses see of them") for kind in re.findall(r"`(\w+)`", row[0].split(" of ")[0])]
+    yield "WORDS.md has types with the record that clauses see", [kind for kind, row in seen if not is_seen(kind, *re.findall(r"`(\w+)`", row[1]))], []
     recipes = re.findall(r"(?ms)^\| step \| file \|\n.*?\n\n", text_of("CONTRIBUTING.md"))
     yield "CONTRIBUTING.md names the files that are there", [lost_files(recipe) for recipe in recipes], [[]] * 5
     commands = [part.split() for part in USAGE.removeprefix("usage: linediff ").split(" | ")]

@@ -59,6 +59,8 @@ def of_a_scenario(program):
     for case, scenario, end in scenarios():
         output, said, status = run(["bench"], scenario, program=program)
         yield "bench: %s" % case, (output.splitlines()[-1:], said, status), ([b"end,%d" % end], *DONE)
+        output, said, status = run(["record", "3"], scenario, program=program)
+        yield "record: %s" % case, (output.count(b"\nslot,"), said, status), ((end + 124) // 125, *DONE)
 
 
 def others(program):

@@ -13,7 +13,7 @@ ROOT = os.path.dirname(os.path.dirname(os.path.abspath(__file__)))
 CRATES = "base:\nmiddle: base arrayvec\nother: base\nbeside: base\nlinediff: middle other # the program\n"
 # What rt is asked for from nothing; `middle`, of the longer text, before `other`.
 CALLS = ["base lib", "middle lib", "other lib", "linediff run -- judge 1"]
-USAGE = "usage: linediff judge COUNT | frames N | bench | gen NUMBER TICKS\n"
+USAGE = "usage: linediff judge COUNT | frames N | bench | gen NUMBER TICKS | record STATION\n"
 NOT_RUN = 125
 # (where git itself runs the gate, it names its own repository)
 ENVIRONMENT = {name: value for name, value in os.environ.items() if not name.startswith("GIT_")}

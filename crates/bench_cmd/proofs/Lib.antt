@@ -2,6 +2,7 @@ pub mod Completeness
 pub mod Cuts
 pub mod Generating
 pub mod Judging
+pub mod Recording
 pub mod Reporting
 pub mod RowNumbers
 pub mod Showing

@@ -4,13 +4,14 @@ use Rattle.ld_base.specs.Ends.{End}
 use Rattle.bench_cmd.specs.FramesText.{frames_text}
 use Rattle.bench_cmd.specs.GeneratorText.{generated_text}
 use Rattle.bench_cmd.specs.Judge.{judge_rows}
+use Rattle.bench_cmd.specs.Recordings.{record_text}
 use Rattle.bench_cmd.specs.ReportText.{bench_text}
 use Rattle.bench_cmd.specs.Faults.{bad_line}
 use Rattle.row_reader.specs.declared.fault.Fault.{Fault}
 use Rattle.row_reader.specs.Rows.{rows_of}
 use Rattle.bench_cmd.specs.Transfers.{GaveAll, GaveSome, GaveTooMuch, GaveUp, Took, TookFront, Untouched}
 use Rattle.bench_cmd.specs.declared.command.Command.{Command}
-use Rattle.bench_cmd.specs.declared.command.Command.TheVariants.{Bench, Frames, Generate, Judge}
+use Rattle.bench_cmd.specs.declared.command.Command.TheVariants.{Bench, Frames, Generate, Judge, Record}
 use Rattle.bench_cmd.specs.declared.status.Status.{Status}
 use Rattle.bench_cmd.specs.declared.status.Status.TheVariants as status
 
@@ -20,6 +21,7 @@ outcome (Judge count) input = judge_rows count (rows_of input)
 outcome (Frames channels) input = Ok (frames_text channels input)
 outcome Bench input = bench_text input
 outcome (Generate number ticks) input = Ok (generated_text number ticks)
+outcome (Record station) input = record_text station input
 
 -- what was written of a command's outcome, for each answer that comes once the input was read
 abbrev pub Written : Result (List ℕ) Fault → End → End → Status → Type 0

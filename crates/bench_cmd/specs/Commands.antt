@@ -2,7 +2,7 @@
 use Rattle.std.specs.Prelude.{ℕ, ◌≤◌, ◌<◌, ◌^◌, Bool, true, false, ◌&&◌, nat_le, if◌then◌else◌, List, [], ◌∷◌, Option, Some, None, bytes_eq, codes}
 use Rattle.row_reader.specs.Numbers.{word_number}
 use Rattle.bench_cmd.specs.declared.command.Command.{Command}
-use Rattle.bench_cmd.specs.declared.command.Command.TheVariants.{Bench, Frames, Generate, Judge}
+use Rattle.bench_cmd.specs.declared.command.Command.TheVariants.{Bench, Frames, Generate, Judge, Record}
 
 -- the numbers of a command are those that it takes
 abbrev pub IsFitting : Command → Type 0
@@ -10,6 +10,7 @@ IsFitting (Judge count) = (1 ≤ count) × (count ≤ 32)
 IsFitting (Frames channels) = (1 ≤ channels) × (channels ≤ 12)
 IsFitting Bench = Unit {0}
 IsFitting (Generate number ticks) = (number < 10 ^ 18) × (1000 ≤ ticks) × (ticks ≤ 20000000)
+IsFitting (Record station) = (1 ≤ station) × (station ≤ 3)
 
 -- whether a command reads an input: the generator has none
 abbrev pub reads_input : Command → Bool
@@ -26,15 +27,21 @@ abbrev pub frames_of : Option ℕ → Option Command
 frames_of None = None
 frames_of (Some channels) = if nat_le 1 channels && nat_le channels 12 then Some (Frames channels) else None
 
+-- `record` with a station from 1 to 3
+abbrev pub record_of : Option ℕ → Option Command
+record_of None = None
+record_of (Some station) = if nat_le 1 station && nat_le station 3 then Some (Record station) else None
+
 -- `bench`, which is a name alone
 abbrev pub of_word : List ℕ → Option Command
 of_word name = if bytes_eq name (codes "bench") then Some Bench else None
 
--- a name with a word for its count
+-- a name with a word for a number
 abbrev pub of_count : List ℕ → List ℕ → Option Command
 of_count name word =
     if bytes_eq name (codes "judge") then judge_of (word_number word)
     else if bytes_eq name (codes "frames") then frames_of (word_number word)
+    else if bytes_eq name (codes "record") then record_of (word_number word)
     else None
 
 -- `gen` with a number and a count of ticks from 1000 to 20000000

@@ -1,4 +1,5 @@
 pub mod Answers
+pub mod Asked
 pub mod Commands
 pub mod Ends
 pub mod Faults
@@ -8,6 +9,7 @@ pub mod Gains
 pub mod GeneratorText
 pub mod Judge
 pub mod Outcomes
+pub mod Recordings
 pub mod ReportLines
 pub mod ReportText
 pub mod ScriptWires

@@ -18,7 +18,7 @@ code_of TooLarge = 7
 -- the line on standard error, where one is written
 abbrev pub complaint_of : Status → Option (List ℕ)
 complaint_of Done = None
-complaint_of Usage = Some (codes "usage: linediff judge COUNT | frames N | bench | gen NUMBER TICKS")
+complaint_of Usage = Some (codes "usage: linediff judge COUNT | frames N | bench | gen NUMBER TICKS | record STATION")
 complaint_of (BadInput row reason) = Some (codes "bad input")
 complaint_of ReadFault = Some (codes "read fault")
 complaint_of WriteFault = Some (codes "write fault")

@@ -1,7 +1,7 @@
 //! The shapes of the command line.
 
 ghost use Rattle.std.specs.Prelude.{◌≡◌, ◌<◌, ◌^◌, Some, IfSome, map};
-ghost use Rattle.bench_cmd.specs.Commands.{IsFitting, command_of, frames_of, gen_of, judge_of, of_count, of_two, of_word};
+ghost use Rattle.bench_cmd.specs.Commands.{IsFitting, command_of, frames_of, gen_of, judge_of, of_count, of_two, of_word, record_of};
 
 use row_reader::word_number;
 
@@ -16,6 +16,8 @@ pub enum Command {
     Bench,
     /// Write the scenario of a number below 10^18 that lasts so many ticks, 1000 to 20000000, and what its run sums up to.
     Generate { number: u64, ticks: u64 },
+    /// Write what the terminal of a station, 1 to 3, was handed in the run of a scenario.
+    Record { station: u8 },
 }
 
 impl Command {
@@ -44,7 +46,7 @@ fn of_word(name: &[u8]) -> Option<Command>
     }
 }
 
-// The command of a name and a word for its count.
+// The command of a name and a word for a number.
 fn of_count(name: &[u8], word: &[u8]) -> Option<Command>
     ensures shape { result ≡ of_count name.now word.now }
     ensures fits { IfSome result IsFitting }
@@ -53,6 +55,8 @@ fn of_count(name: &[u8], word: &[u8]) -> Option<Command>
         judge_of(word_number(word)?)
     } else if name == b"frames".as_slice() {
         frames_of(word_number(word)?)
+    } else if name == b"record".as_slice() {
+        record_of(word_number(word)?)
     } else {
         None
     }
@@ -87,6 +91,17 @@ fn frames_of(channels: u64) -> Option<Command>
     }
     Some(Command::Frames {
         channels: channels as u8,
+    })
+}
+
+fn record_of(station: u64) -> Option<Command>
+    ensures { result ≡ record_of (Some station) }
+{
+    if station < 1 || 3 < station {
+        return None;
+    }
+    Some(Command::Record {
+        station: station as u8,
     })
 }
 

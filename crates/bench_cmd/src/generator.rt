@@ -4,14 +4,11 @@ ghost use Rattle.std.specs.Prelude.{◌≡◌, ◌≤◌, ◌<◌, ◌^◌, Ok, 
 ghost use Rattle.row_reader.specs.Rows.{rows_of};
 ghost use Rattle.waveform_reader.specs.Scenario.{scenario_of};
 ghost use Rattle.scenario_generator.specs.Rows.{scenario_text};
-ghost use Rattle.line_world.specs.Run.{Run};
 ghost use Rattle.bench_cmd.specs.GeneratorText.{generated_text};
 
 use crate::report_lines::write_sums;
-use crate::reports::{run_to_end, totals_of};
-use crate::script_wires::script_wires;
+use crate::reports::{run_of, totals_of};
 use ld_base::NoMemory;
-use line_world::{ScriptWire, World};
 use scenario_generator::generate;
 use scenario_generator::laws::every_number_gives_a_scenario;
 use std::alloc::Global;
@@ -44,15 +41,4 @@ fn read_generated(alloc: Global, number: u64, ticks: u64, text: &[u8]) -> Result
         Err(ReadScenario::Bad { .. }) => unreachable!(),
         Err(ReadScenario::NoMemory) => Err(NoMemory),
     }
-}
-
-// A scenario's world at the end of its run.
-fn run_of(alloc: Global, scenario: Scenario) -> Result<World<ScriptWire>, NoMemory>
-    ensures setup { IfOk result (λ world. world.setup ≡ scenario) }
-    ensures run { IfOk result (λ world. world.journal ≡ Run scenario) }
-{
-    let wires = script_wires(alloc, &scenario)?;
-    let mut world = World::new(alloc, scenario, wires)?;
-    run_to_end(&mut world)?;
-    Ok(world)
 }

@@ -1,6 +1,7 @@
 //! The commands of linediff, from words and input to text and status.
 #![tactic(auto)]
 
+mod asked;
 mod bench;
 mod command;
 mod cutting;
@@ -13,6 +14,7 @@ mod input;
 mod judge;
 pub mod laws;
 mod output;
+mod record;
 mod report_lines;
 mod report_text;
 mod reports;

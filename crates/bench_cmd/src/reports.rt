@@ -11,12 +11,13 @@ ghost use Rattle.line_world.specs.Worlds.{FollowsScript, Grows, HasEnded, IsOver
 ghost use Rattle.true_time.specs.TrueTime.{KeepsTrueTime};
 
 use crate::report_text::report_text;
+use crate::script_wires::script_wires;
 use calm_channel::laws::{
     a_calm_run_is_honest, an_exchange_is_in_force_from_a_tick_on, every_message_comes_at_its_tick,
     no_alarm_unaligned_turns_on_from_a_tick_on,
 };
 use ld_base::{NoMemory, Station, Wire};
-use line_world::{Stepped, Total, World};
+use line_world::{ScriptWire, Stepped, Total, World};
 use std::alloc::Global;
 use true_time::laws::a_journal_keeps_true_time;
 use waveform_reader::Scenario;
@@ -70,6 +71,17 @@ pub fn report<W: Wire>(
     an_exchange_is_in_force_from_a_tick_on();
     no_alarm_unaligned_turns_on_from_a_tick_on();
     Ok((world, text))
+}
+
+/// A scenario's world at the end of its run.
+pub(crate) fn run_of(alloc: Global, scenario: Scenario) -> Result<World<ScriptWire>, NoMemory>
+    ensures setup { IfOk result (λ world. world.setup ≡ scenario) }
+    ensures run { IfOk result (λ world. world.journal ≡ Run scenario) }
+{
+    let wires = script_wires(alloc, &scenario)?;
+    let mut world = World::new(alloc, scenario, wires)?;
+    run_to_end(&mut world)?;
+    Ok(world)
 }
 
 /// Steps a world until it ends.

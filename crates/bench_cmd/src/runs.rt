@@ -18,6 +18,7 @@ use crate::generator::generated;
 use crate::input::{Unread, read_input};
 use crate::judge::judge;
 use crate::output::{Outcome, bad_line, write_text};
+use crate::record::record;
 use crate::status::Status;
 use calm_channel::laws::{
     a_calm_run_is_honest, an_exchange_is_in_force_from_a_tick_on, every_message_comes_at_its_tick,
@@ -101,6 +102,7 @@ fn outcome_of(alloc: Global, command: Command, input: &[u8]) -> Result<Outcome, 
         Command::Judge { count } => judge(alloc, count, input),
         Command::Frames { channels } => Ok(Outcome::Text(frames(alloc, channels, input)?)),
         Command::Bench => bench(alloc, input),
+        Command::Record { station } => record(alloc, station, input),
         Command::Generate { .. } => unreachable!(),
     }
 }

@@ -48,7 +48,7 @@ impl Status {
         match self {
             Status::Done => None,
             Status::Usage => Some(
-                "usage: linediff judge COUNT | frames N | bench | gen NUMBER TICKS",
+                "usage: linediff judge COUNT | frames N | bench | gen NUMBER TICKS | record STATION",
             ),
             Status::BadInput { .. } => Some("bad input"),
             Status::ReadFault => Some("read fault"),

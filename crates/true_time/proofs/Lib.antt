@@ -18,4 +18,5 @@ pub mod Brought
 pub mod Sampled
 pub mod Sets
 pub mod TrueSets
+pub mod Mixing
 pub mod Runs

@@ -6,6 +6,7 @@ ghost use Rattle.waveform_reader.specs.Scenario.{Setup};
 ghost use Rattle.waveform_reader.specs.Sound.{IsSetup};
 ghost use Rattle.line_world.specs.Journals.{IsJournalOf};
 ghost use Rattle.line_world.specs.Run.{Run};
+ghost use Rattle.true_time.specs.Mixing.{MixesAreNear};
 ghost use Rattle.true_time.specs.TrueTime.{KeepsTrueTime};
 
 use line_world::laws::a_world_keeps_a_journal;
@@ -24,3 +25,9 @@ pub fn a_run_keeps_true_time()
     a_world_keeps_a_journal();
     a_journal_keeps_true_time();
 }
+
+/// Whatever its wires do, in a journal of a scenario a value that is mixed by an exchange whose messages are honest belongs to
+/// nearly the instant of the own sample. The spacing is no part of what may lie between.
+pub fn mixes_are_near()
+    ensures { (s : Setup) (journal : List Entry) → IsSetup s → IsJournalOf s journal → MixesAreNear s.settings journal }
+{}

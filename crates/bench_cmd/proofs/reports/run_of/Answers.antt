@@ -1,7 +1,7 @@
 use Rattle.std.proofs.Common.{◌∙◌, ap, Some, map}
 use Rattle.line_world.specs.Run.{Run}
 use Rattle.bench_cmd.proofs.Reporting.{tell_lines, wires_tell}
-use Rattle.bench_cmd.proofs.generator.run_of.Goals as goal
+use Rattle.bench_cmd.proofs.reports.run_of.Goals as goal
 
 pub returns-clause-run : goal.returns-clause-run
 returns-clause-run c =

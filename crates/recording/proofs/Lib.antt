@@ -1,0 +1,2 @@
+pub mod ChunkBytes
+pub mod Texts
